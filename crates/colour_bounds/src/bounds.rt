@@ -387,7 +387,7 @@ fn is_bounded(scan: &PartitionScan, bounds: &ValueBounds, present: u8) -> bool
 
 /// Returns the range of values of an integer, from the first up to the second number (exclusive),
 /// that may give a smaller error than the present one; all others are ruled out. The range contains
-/// the present value. It is the whole level if the curve excludes nothing.
+/// the present value, and is the whole level if the curve excludes nothing.
 pub fn values_to_try<const W: usize, const H: usize>(
     scan: &PartitionScan,
     bounds: &ValueBounds,

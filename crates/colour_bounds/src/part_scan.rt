@@ -28,7 +28,7 @@ use texel_error::Steps;
 /// The data of a partition while the values of its colour integers are tried.
 #[derive(Clone, Copy)]
 pub struct PartitionScan<'a> {
-    /// The tables of the block.
+    /// The tables of the block, with its present state.
     pub tables: &'a Tables<'a>,
     pub part: u8,
     /// The places inside the image that belong to the partition: the reach of its colour integers.

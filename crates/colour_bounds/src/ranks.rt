@@ -24,8 +24,8 @@ fn digits_of(count: u16) -> u16
     }
 }
 
-// The even integer at a rank of the lower half. Its values rise with the digit first, then with the
-// upper low bits.
+// The even integer at a rank of the lower half. With the rank, the digit rises first, then the low
+// bits above the lowest.
 #[inline(always)]
 fn spread(count: u16, digits: u16, rank: u16) -> u16
     requires count { count ≤ 256 }

@@ -1,4 +1,4 @@
-//! A block that a change of a pair improves. Walks over single changes are data of
+//! A block that only a change of a pair of integers improves. Tests of single changes are data of
 //! `settling_cases`.
 ghost use Rattle.astc_model.specs.Blocks.{Legal};
 
@@ -9,7 +9,7 @@ use error_state::ErrorState;
 use std::process::Abort;
 use texel_error::Steps;
 
-// A source of one texel in all places.
+// A source with the same texel in all places.
 fn even(texel: [u8; 4]) -> Source<4, 4> {
     let mut source = Source::new(Footprint::<4, 4>::new());
     for y in 0..4u8 {
@@ -20,8 +20,8 @@ fn even(texel: [u8; 4]) -> Source<4, 4> {
     source
 }
 
-// All weights are 0, and both colour integers together show 63; the integers 0 and 64 show 64, as
-// the source.
+// A block whose weights are all 0, and whose first endpoint decodes to 63. With the colour integers
+// 0 and 64 it would be 64, as in the source.
 fn dark() -> Coded {
     Coded {
         mode: 66,

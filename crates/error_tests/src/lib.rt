@@ -1,4 +1,4 @@
-// Tests of `texel_error`, `error_state`, `line_floors`, over their public calls.
+// Tests of `texel_error`, `error_state` and `line_floors` through their public functions.
 #![tactic(auto)]
 
 #[cfg(test)]

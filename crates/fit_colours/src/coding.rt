@@ -1,4 +1,4 @@
-// Colour integers for the colours of a part.
+// Colour integers for the least-squares endpoints of a partition.
 ghost use Rattle.std.specs.Prelude.{◌≡◌, ◌≤◌};
 ghost use Rattle.astc_model.specs.Endpoints.{endpoint_integers};
 ghost use Rattle.astc_model.specs.Levels.{count_of};
@@ -11,8 +11,8 @@ use ideal_weights::{BlockLayout, Lanes, Number, Texels, byte, number, quotient};
 use quant_tables::{colour_value, nearest_colour, nearest_colour_values};
 use std::num::Wrapping;
 
-/// The integers of a part, the colours that they stand for, and about the error with them, in
-/// 1/256.
+/// The colour integers of a partition, the endpoints that they encode, and approximately the error
+/// with them in 1/256.
 #[derive(Clone, Copy)]
 pub struct Coding {
     pub error: Number,
@@ -20,32 +20,34 @@ pub struct Coding {
     pub ends: ColourEnds,
 }
 
-/// The colours that those of a partition should be close to.
+/// The least-squares endpoints of a partition, with the sums over its texels from which errors are
+/// estimated.
 #[derive(Clone, Copy)]
 pub struct WantedColours {
     sums: FitSums,
     gains: [Number; 4],
     ends: ColourEnds,
-    /// The best scale in 1/256.
+    /// The best scale for modes 6 and 10, in 1/256.
     scale: u8,
-    /// About the error of alpha with 255 at both ends.
+    /// Approximately the error of alpha if both endpoints have 255.
     opaque: Number,
 }
 
-/// Values that the integers of an endpoint mode should be close to, and others that may be closer.
+/// The ideal colour values of an endpoint mode, and an alternative that may be closer after
+/// quantization.
 #[derive(Clone, Copy)]
 pub struct WantedValues {
     first: [u8; 8],
     second: Option<[u8; 8]>,
 }
 
-/// The values without a mode.
+/// The value without an endpoint mode.
 pub static NO_VALUES: WantedValues = WantedValues {
     first: [0; 8],
     second: None,
 };
 
-/// The colours without a partition.
+/// The value without a partition.
 pub static NO_COLOURS: WantedColours = WantedColours {
     sums: [NO_SUMS; 4],
     gains: [Wrapping(0); 4],
@@ -54,24 +56,25 @@ pub static NO_COLOURS: WantedColours = WantedColours {
     opaque: Wrapping(0),
 };
 
-/// The number of integers of a part of this colour endpoint mode.
+/// Returns the number of colour integers of a partition with this endpoint mode.
 pub fn integers_of(cem: u8) -> usize
     ensures { result ≡ endpoint_integers cem }
 {
     2 * (usize::from(cem) / 4 + 1)
 }
 
-/// Whether the first colour of an endpoint mode is the second one scaled.
+/// Returns whether the first endpoint of a mode is the second one times a scale.
 pub fn has_scale(cem: u8) -> bool {
     matches!(cem, 6 | 10)
 }
 
-// Whether an endpoint mode has alpha.
+// Whether an endpoint mode encodes alpha.
 fn has_alpha(cem: u8) -> bool {
     !matches!(cem, 0 | 6 | 8 | 9)
 }
 
-// The colours of a direct mode's values; None if its blocks have them the other way round.
+// The endpoints of mode 8 or 12; None if the decoder exchanges them, since the first has the
+// greater sum.
 #[inline(always)]
 fn direct_ends(values: &[u8; 8], has_alpha: bool) -> Option<ColourEnds> {
     let last = if has_alpha {
@@ -87,7 +90,7 @@ fn direct_ends(values: &[u8; 8], has_alpha: bool) -> Option<ColourEnds> {
     Some((first, second))
 }
 
-// The colours of values of an endpoint mode; black for an unknown mode.
+// The endpoints of colour values; black if the mode does not belong to the LDR profile.
 fn ends_of_values(cem: u8, values: &[u8; 8]) -> ColourEnds {
     if matches!(cem, 8 | 12) {
         if let Some(ends) = direct_ends(values, cem == 12) {
@@ -106,7 +109,7 @@ fn sum_of(colour: &[u8; 4]) -> Number {
     number(i64::from(colour[0]) + i64::from(colour[1]) + i64::from(colour[2]))
 }
 
-// The grey that is nearest to a colour in the channels that count.
+// The grey that is closest to a colour, each channel with its weight.
 fn grey_of(colour: &[u8; 4], gains: &[Number; 4]) -> u8 {
     let all = gains[0] + gains[1] + gains[2];
     let mut sum = all >> 1;
@@ -116,7 +119,8 @@ fn grey_of(colour: &[u8; 4], gains: &[Number; 4]) -> u8 {
     byte(quotient(sum, all))
 }
 
-// The values of a base and an offset from it, of -32 to 31 ("bit transfer").
+// The two values of a base and a signed offset, clamped to -32 to 31: the inverse of
+// `bit_transfer_signed`.
 fn offset(base: u8, end: u8) -> [u8; 2] {
     let apart = (i32::from(end) - i32::from(base)).clamp(-32, 31) & 63;
     [
@@ -136,14 +140,14 @@ fn values_of_offsets(ends: &ColourEnds) -> [u8; 8] {
     values
 }
 
-// The values of a base and an offset in grey, and of those in alpha.
+// The values of mode 5: a base and an offset in grey, and a base and an offset in alpha.
 fn values_of_grey_offsets(first: u8, second: u8, alphas: [u8; 2]) -> [u8; 8] {
     let [base, apart] = offset(first, second);
     let [alpha, alpha_apart] = offset(alphas[0], alphas[1]);
     [base, apart, alpha, alpha_apart, 0, 0, 0, 0]
 }
 
-// Red and green as offsets from blue ("blue contraction"); None if they are out of range.
+// The red and green that blue contraction turns into this colour; None if they are out of range.
 fn contracted(colour: &[u8; 4]) -> Option<[u8; 2]> {
     let red = 2 * i32::from(colour[0]) - i32::from(colour[2]);
     let green = 2 * i32::from(colour[1]) - i32::from(colour[2]);
@@ -152,7 +156,7 @@ fn contracted(colour: &[u8; 4]) -> Option<[u8; 2]> {
     Some([red, green])
 }
 
-// The values of the direct modes for contracted ends.
+// The values of modes 8 and 12 that decode to these endpoints by blue contraction.
 fn values_contracted(ends: &ColourEnds) -> Option<[u8; 8]> {
     let (a, b) = ends;
     let [a_red, a_green] = contracted(a)?;
@@ -160,8 +164,8 @@ fn values_contracted(ends: &ColourEnds) -> Option<[u8; 8]> {
     Some([b_red, a_red, b_green, a_green, b[2], a[2], b[3], a[3]])
 }
 
-// The values of the offset modes for contracted ends; None if their sum does not fall, which is the
-// sign that they are contracted.
+// The values of modes 9 and 13 that decode to these endpoints by blue contraction. None if the sum
+// of the offsets is not negative, since the decoder does not contract then.
 fn offsets_contracted(ends: &ColourEnds) -> Option<[u8; 8]> {
     let (a, b) = ends;
     let [a_red, a_green] = contracted(a)?;
@@ -174,7 +178,7 @@ fn offsets_contracted(ends: &ColourEnds) -> Option<[u8; 8]> {
     Some(values_of_offsets(&(first, second)))
 }
 
-// The values of the scale modes whose scale is that of the colours' sums.
+// The values of modes 6 and 10 with the ratio of the sums of the endpoints as scale.
 fn values_by_ratio(ends: &ColourEnds) -> [u8; 8] {
     let (a, b) = ends;
     let scale = byte(quotient((sum_of(a) << 8) + (sum_of(b) >> 1), sum_of(b)));
@@ -182,8 +186,8 @@ fn values_by_ratio(ends: &ColourEnds) -> [u8; 8] {
 }
 
 impl WantedColours {
-    /// Turns to a part whose texels have these weights, 0 to 64, by plane: to the colours with the
-    /// least squared differences.
+    /// Computes the least-squares endpoints of a partition whose texels have these weights, 0 to
+    /// 64, by plane.
     pub fn turn_to<const W: usize, const H: usize>(
         &mut self,
         texels: &Texels,
@@ -197,13 +201,13 @@ impl WantedColours {
         self.opaque = channel_error(&self.sums[3], self.gains[3], 255, 255);
     }
 
-    /// Finds the best scale, for the endpoint modes that have one.
+    /// Computes the best scale, which only modes 6 and 10 need.
     pub fn find_scale(&mut self, layout: BlockLayout) {
         self.scale = scale_of(&self.sums, layout, &self.gains);
     }
 
-    // The values of the scale modes at a level, whose scale is what the level makes of the best
-    // one.
+    // The values of modes 6 and 10 at a level: the scale is quantized first, and the colour fits
+    // the quantized scale.
     fn values_scaled(&self, level: Level) -> [u8; 8]
         requires { 6 ≤ count_of level }
     {
@@ -217,7 +221,7 @@ impl WantedColours {
         grey_of(colour, &self.gains)
     }
 
-    // The values of an endpoint mode.
+    // The ideal values of an endpoint mode.
     fn values_for(&self, cem: u8, level: Level) -> [u8; 8]
         requires { 6 ≤ count_of level }
     {
@@ -232,7 +236,7 @@ impl WantedColours {
         }
     }
 
-    // Other values of the mode, which may be closer.
+    // Alternative values of an endpoint mode, which may be closer.
     fn other_values(&self, cem: u8) -> Option<[u8; 8]> {
         match cem {
             6 | 10 => Some(values_by_ratio(&self.ends)),
@@ -242,7 +246,7 @@ impl WantedColours {
         }
     }
 
-    /// The values of an endpoint mode; those of a scale are for a level.
+    /// Returns the ideal values of an endpoint mode. For modes 6 and 10 they depend on the level.
     pub fn values(&self, cem: u8, level: Level) -> WantedValues
         requires { 6 ≤ count_of level }
     {
@@ -252,7 +256,8 @@ impl WantedColours {
         }
     }
 
-    // About the error with these colours, in 1/256; without alpha both ends have 255.
+    // Approximately the error with these endpoints, in 1/256. In modes without alpha both endpoints
+    // have 255.
     #[inline(always)]
     fn error_with(&self, cem: u8, ends: &ColourEnds) -> Number {
         let alpha = if has_alpha(cem) {
@@ -263,7 +268,7 @@ impl WantedColours {
         (colour_error(&self.sums, &self.gains, ends) + alpha).max(number(0))
     }
 
-    // About the error with the integers that are nearest to values at a level.
+    // Approximately the error after the values are quantized at a level.
     fn error_near(&self, cem: u8, level: Level, wanted: &[u8; 8]) -> Number
         requires { 6 ≤ count_of level }
     {
@@ -275,8 +280,8 @@ impl WantedColours {
         self.error_with(cem, &ends_of_values(cem, &values))
     }
 
-    /// About the error with the integers of an endpoint mode at a level that are nearest to its
-    /// values, in 1/256.
+    /// Returns approximately the error of a partition with an endpoint mode at a level, in 1/256:
+    /// the smaller one of the ideal values and the alternative, both quantized.
     pub fn error(&self, cem: u8, level: Level, values: &WantedValues) -> Number
         requires { 6 ≤ count_of level }
     {
@@ -287,7 +292,7 @@ impl WantedColours {
         }
     }
 
-    // The integers that are nearest to values at a level.
+    // The colour integers of a level that are closest to these values.
     fn coded(&self, cem: u8, level: Level, wanted: &[u8; 8]) -> Coding
         requires { 6 ≤ count_of level }
     {
@@ -307,7 +312,7 @@ impl WantedColours {
         }
     }
 
-    /// The best integers of an endpoint mode at a level.
+    /// Returns the best colour integers of an endpoint mode at a level.
     pub fn coding(&self, cem: u8, level: Level) -> Coding
         requires { 6 ≤ count_of level }
     {

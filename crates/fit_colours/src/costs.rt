@@ -1,4 +1,4 @@
-// The cost of the colours of a layout.
+// Estimates of the error of a layout's colours, called costs.
 ghost use Rattle.std.specs.Prelude.{◌≤◌};
 ghost use Rattle.astc_model.specs.Levels.{count_of};
 
@@ -9,24 +9,23 @@ use ideal_weights::{IdealWeights, Lanes, MOST, Number, Texels, lanes, number};
 use std::num::Wrapping;
 use std::ops::Range;
 
-/// The endpoint modes that are tried, by the number of integers: without alpha a grey one, a scaled
-/// one, a direct one and one with offsets, and the same with alpha, if a grey one with offsets
-/// comes last.
+/// The endpoint modes that a fit tries: without alpha a grey, a scale, a direct one and one with
+/// offsets; then with alpha the same four in this order, and grey with offsets.
 pub static ENDPOINT_MODES: [u8; 9] = [0, 6, 8, 9, 4, 10, 12, 13, 5];
 
-// The index without an endpoint mode.
+// The index that stands for no endpoint mode.
 static NOWHERE: usize = 9;
 
-// More than any colours cost.
+// A cost above all others.
 static FAR: Number = Wrapping(i64::MAX / 8);
 
-// The cost of a partition with a missing mode.
+// The cost of a partition without an endpoint mode.
 static NO_COST: Cost = Cost { error: FAR, cem: 0 };
 
-// A cost by level, each computed once.
+// A cost for each level; each is computed at most once.
 #[derive(Clone, Copy)]
 struct ByLevel {
-    // A bit for each level whose cost is known.
+    // Bit k is set if the cost at level k is known.
     known: u32,
     costs: [Number; 21],
 }
@@ -56,7 +55,8 @@ impl ByLevel {
     }
 }
 
-// The costs of colours of two classes by level, by the number of partitions with the higher class.
+// For each level, the costs of endpoint modes from two neighbouring classes, by the number of
+// partitions with the higher class.
 #[derive(Clone, Copy)]
 struct ByCount {
     costs: [[Number; 5]; 21],
@@ -79,7 +79,7 @@ impl ByCount {
 struct PartCosts {
     want: WantedColours,
     opaque: bool,
-    // By the place of the endpoint mode, each.
+    // By the index of the endpoint mode in `ENDPOINT_MODES`.
     modes: [ByLevel; 9],
     values: [WantedValues; 9],
     has_values: [bool; 9],
@@ -93,7 +93,8 @@ static NO_PART: PartCosts = PartCosts {
     has_values: [false; 9],
 };
 
-// The places of the modes of a class, those without alpha or those with it.
+// The indices of the endpoint modes of a class (a quarter of the mode's number), those with or
+// those without alpha.
 fn places_of_class(class: usize, opaque: bool) -> [usize; 2] {
     match (class, opaque) {
         (0, true) => [0, NOWHERE],
@@ -107,7 +108,7 @@ fn places_of_class(class: usize, opaque: bool) -> [usize; 2] {
 }
 
 impl PartCosts {
-    // Forgets what the last part's colours cost.
+    // Forgets the costs of the last partition.
     fn forget(&mut self) {
         self.has_values = [false; 9];
         for own in self.modes.iter_mut() {
@@ -115,7 +116,8 @@ impl PartCosts {
         }
     }
 
-    // Finds the cost with the endpoint mode of a place; a scale's values are those of a level.
+    // Computes the cost with the endpoint mode of an index. The values of modes with a scale depend
+    // on the level.
     #[inline(never)]
     fn find(&mut self, place: usize, level: Level) -> Number
         requires { 6 ≤ count_of level }
@@ -131,7 +133,7 @@ impl PartCosts {
         cost
     }
 
-    // With the endpoint mode of a place.
+    // The cost with the endpoint mode of an index.
     #[inline(always)]
     fn at(&mut self, place: usize, level: Level) -> Number
         requires { 6 ≤ count_of level }
@@ -142,7 +144,7 @@ impl PartCosts {
         }
     }
 
-    // With the endpoint mode of a place where there is one.
+    // The cost with the endpoint mode of an index, or `NO_COST` if there is none.
     #[inline(always)]
     fn cost_at(&mut self, place: usize, level: Level) -> Cost
         requires { 6 ≤ count_of level }
@@ -157,7 +159,7 @@ impl PartCosts {
         }
     }
 
-    // The least of a class of modes.
+    // The least cost over the modes of a class.
     #[inline(always)]
     fn of_class(&mut self, class: usize, level: Level) -> Cost
         requires { 6 ≤ count_of level }
@@ -168,7 +170,7 @@ impl PartCosts {
         if other.error < own.error { other } else { own }
     }
 
-    // The least of a class, and of the one above it.
+    // The least cost over the modes of a class, and over those of the class above it.
     fn choice(&mut self, low: usize, level: Level) -> Choice
         requires { 6 ≤ count_of level }
     {
@@ -178,7 +180,8 @@ impl PartCosts {
         }
     }
 
-    // The least with the mode of any of these places, or of any class.
+    // The least cost over the modes of these indices, and of all classes if `by_class`, at level
+    // 256.
     fn least(&mut self, places: Range<usize>, by_class: bool) -> Number {
         let mut least = FAR;
         for place in places {
@@ -193,20 +196,21 @@ impl PartCosts {
     }
 }
 
-/// The costs of the colours of a layout, each computed once.
+/// The costs of the colours of a layout; each is computed at most once.
 #[derive(Clone, Copy)]
 pub struct Costs {
-    /// The number of parts.
+    /// The number of partitions.
     pub parts: usize,
     opaque: bool,
     by_part: [PartCosts; 4],
-    // By place and level, the sum over the parts if all have one endpoint mode.
+    // By index and level, the sum over the partitions if all have the same endpoint mode.
     sames: [ByLevel; 9],
-    // By the lower class and level, the least sum if each part has a mode of that class or of
-    // the one above it, and by how many have the higher class.
+    // By the lower of two classes and by level, the least sum if each partition has a mode of this
+    // class or of the one above it; and the least sums by the number of partitions with the higher
+    // class.
     mixes: [ByLevel; 4],
     counts: [ByCount; 4],
-    // By plane the ideal weights, 0 to 64.
+    // For each plane the ideal weights, 0 to 64.
     weights: [Lanes; 2],
 }
 
@@ -221,12 +225,12 @@ pub static NO_COSTS: Costs = Costs {
     weights: [[0; 160]; 2],
 };
 
-// Whether alpha is 255 at each texel, or does not count.
+// Whether alpha is 255 at each texel or has the weight 0.
 fn needs_no_alpha(texels: &Texels) -> bool {
     texels.opaque || texels.gains[3].0 == 0
 }
 
-// Whether no alpha of a part differs from 255, or alpha does not count.
+// Whether alpha is 255 at each texel of a partition or has the weight 0.
 fn is_opaque<const W: usize, const H: usize>(texels: &Texels, part: &Lanes) -> bool {
     let mut apart = 0;
     for (alpha, inside) in texels.channels[3].iter().zip(part).take(lanes::<W, H>()) {
@@ -235,7 +239,7 @@ fn is_opaque<const W: usize, const H: usize>(texels: &Texels, part: &Lanes) -> b
     needs_no_alpha(texels) || apart == 0
 }
 
-// Puts in ideal weights, 0 to 512, as weights of 0 to 64.
+// Sets weights of 0 to 64 from ideal weights of 0 to 512.
 fn put_rounded<const W: usize, const H: usize>(weights: &mut Lanes, wanted: &Lanes) {
     for p in 0..lanes::<W, H>() {
         weights[p] = wanted[p].wrapping_add(4) >> 3;
@@ -252,7 +256,7 @@ impl Costs {
         }
     }
 
-    /// Turns to the ideal weights of a layout.
+    /// Begins a layout with these ideal weights.
     pub fn turn_to<const W: usize, const H: usize>(
         &mut self,
         ideal: &IdealWeights,
@@ -275,19 +279,19 @@ impl Costs {
         }
     }
 
-    /// The places of the endpoint modes that all partitions can have.
+    /// Returns the indices in `ENDPOINT_MODES` of the modes that all partitions can have.
     pub fn places(&self) -> Range<usize> {
         if self.opaque { 0..4 } else { 4..9 }
     }
 
-    /// Whether no part needs alpha.
+    /// Returns whether no partition needs alpha.
     pub fn is_opaque(&self) -> bool {
         self.opaque
     }
 
-    /// The least cost with modes of a class and of the class above it, whatever number has the
-    /// higher class; not the whole cost unless it is under the limit. No level costs less than the
-    /// greatest.
+    /// Returns the least cost if each partition has a mode of class `low` or of the class above it.
+    /// If the cost is not under the limit, the result may be only a part of it. The cost at level
+    /// 256 is used as a lower bound for all levels.
     pub fn least_mixed(&mut self, low: usize, level: Level, limit: Number) -> Number
         requires { 6 ≤ count_of level }
     {
@@ -323,8 +327,8 @@ impl Costs {
         least
     }
 
-    /// The cost if this number of partitions has the higher class, after the least is known to be
-    /// under a limit.
+    /// Returns the cost if `high` partitions have the higher class. [`Costs::least_mixed`] must
+    /// have returned a cost under its limit before.
     pub fn of_mixed(&self, low: usize, level: Level, high: usize) -> Number {
         match self.counts[low & 3].costs.get(level as usize) {
             Some(own) => own[high.min(4)],
@@ -332,7 +336,7 @@ impl Costs {
         }
     }
 
-    /// The endpoint modes with this cost.
+    /// Returns the endpoint modes that have the cost of [`Costs::of_mixed`].
     #[inline(never)]
     pub fn mixed_cems(&mut self, low: usize, level: Level, high: usize) -> [u8; 4]
         requires { 6 ≤ count_of level }
@@ -344,8 +348,8 @@ impl Costs {
         cems_of(&choices, self.parts, high)
     }
 
-    // The sum if all parts have the endpoint mode of a place; not all of it, if it is not under the
-    // limit.
+    // The cost if all partitions have the endpoint mode of an index. If it is not under the limit,
+    // the result may be only a part of it.
     #[inline(never)]
     fn find_same(&mut self, place: usize, level: Level, limit: Number) -> Number
         requires { 6 ≤ count_of level }
@@ -361,8 +365,9 @@ impl Costs {
         total
     }
 
-    /// The cost if all have the endpoint mode of a place; not the whole cost unless it is under the
-    /// limit. No level costs less than the greatest.
+    /// Returns the cost if all partitions have the endpoint mode of an index. If the cost is not
+    /// under the limit, the result may be only a part of it. The cost at level 256 is used as a
+    /// lower bound for all levels.
     pub fn of_same(&mut self, place: usize, level: Level, limit: Number) -> Number
         requires { 6 ≤ count_of level }
     {
@@ -379,7 +384,7 @@ impl Costs {
         self.find_same(place, level, limit)
     }
 
-    /// The least cost: with the best endpoint mode of each partition at the greatest level.
+    /// Returns the least cost: with the best endpoint mode of each partition at level 256.
     pub fn least(&mut self) -> Number {
         let mut total = number(0);
         for k in 0..self.parts.min(4) {

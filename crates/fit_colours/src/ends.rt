@@ -1,17 +1,20 @@
-// The least-squares colours of a part.
+// The least-squares endpoints of a partition for given weights.
 use ideal_weights::{
     BlockLayout, Lanes, Number, Texels, byte, dot, nearest_quotient, number, total,
 };
 use std::num::Wrapping;
 
-/// The two colours of a part.
+/// The two endpoints of a partition: red, green, blue and alpha each.
 pub type ColourEnds = ([u8; 4], [u8; 4]);
 
-/// Sums over the texels of a partition in one channel. With w as the weight, 0 to 64, and u = 64 -
-/// w a decoder shows about x = (s (a u + b w) + 32) / 2^14 between the values a and b; s is 257, or
-/// 256 in red, green and blue of sRGB. Here u and w are times s, and z is 2^14 times the ideal
-/// value, as x would need it: with 8160 more, or for red, green and blue of sRGB, whose x has 128 /
-/// 256 more, with none.
+/// Sums over the texels of a partition in one channel, from which the error of any two endpoints is
+/// estimated.
+///
+/// With the weight w (0 to 64) and u = 64 - w, a decoder shows about x = (s * (a * u + b * w) + 32)
+/// / 2^14 between the endpoints a and b, where s is 257, or 256 in red, green and blue of sRGB. In
+/// the sums, u and w are multiplied by s, and z is 2^14 times the source's value: plus 8160 for s =
+/// 257, where the middle of the values that are rounded down to a byte is; plus nothing for s =
+/// 256, where 128 in the low byte has this effect.
 #[derive(Clone, Copy, Default)]
 pub struct ChannelSums {
     pub uu: Number,
@@ -22,7 +25,7 @@ pub struct ChannelSums {
     pub zz: Number,
 }
 
-/// The sums of no texels.
+/// The sums over no texels.
 pub static NO_SUMS: ChannelSums = ChannelSums {
     uu: Wrapping(0),
     uw: Wrapping(0),
@@ -32,10 +35,10 @@ pub static NO_SUMS: ChannelSums = ChannelSums {
     zz: Wrapping(0),
 };
 
-/// The sums of a part by channel.
+/// The sums of a partition for each channel.
 pub type FitSums = [ChannelSums; 4];
 
-// Sums of the weights of a part: their number, they, and their squares.
+// The number of texels of a partition, and the sums of their weights and of the squares of these.
 #[derive(Clone, Copy)]
 struct WeightSums {
     count: Number,
@@ -96,7 +99,7 @@ fn channel_sums(weights: &WeightSums, values: &ValueSums, linear: bool) -> Chann
     }
 }
 
-/// Puts in the sums over a part whose texels have these weights, 0 to 64, by plane.
+/// Computes the sums over a partition whose texels have these weights, 0 to 64, by plane.
 pub fn put_sums<const W: usize, const H: usize>(
     sums: &mut FitSums,
     texels: &Texels,
@@ -122,8 +125,8 @@ pub fn put_sums<const W: usize, const H: usize>(
     }
 }
 
-// The values of a channel with the least squares; the mean of all if the weights are too much
-// alike. Shifted, products fit.
+// The least-squares endpoints of a channel. If the weights are too much alike, both are the mean.
+// The sums are shifted right so that their products do not overflow.
 fn ends_of_channel(sums: &ChannelSums) -> (u8, u8) {
     let (uu, uw, ww) = (sums.uu >> 16, sums.uw >> 16, sums.ww >> 16);
     let (uz, wz) = (sums.uz >> 16, sums.wz >> 16);
@@ -138,7 +141,7 @@ fn ends_of_channel(sums: &ChannelSums) -> (u8, u8) {
     )
 }
 
-/// The colours with the least squared differences.
+/// Returns the least-squares endpoints.
 pub fn ends_of(sums: &FitSums) -> ColourEnds {
     let mut ends = ([0; 4], [0; 4]);
     for c in 0..4 {
@@ -149,7 +152,8 @@ pub fn ends_of(sums: &FitSums) -> ColourEnds {
     ends
 }
 
-/// About the error of a channel with these values, in 1/256, as often as its gain.
+/// Returns approximately the error of a channel with these endpoints, in 1/256, times the weight of
+/// the channel.
 #[inline(always)]
 pub fn channel_error(own: &ChannelSums, gain: Number, first: u8, second: u8) -> Number {
     let (first, second) = (number(i64::from(first)), number(i64::from(second)));
@@ -158,7 +162,7 @@ pub fn channel_error(own: &ChannelSums, gain: Number, first: u8, second: u8) -> 
     gain * ((from_first + from_second + own.zz) >> 20)
 }
 
-/// The error in red, green and blue together.
+/// Returns approximately the error of red, green and blue together, in 1/256.
 #[inline(always)]
 pub fn colour_error(sums: &FitSums, gains: &[Number; 4], ends: &ColourEnds) -> Number {
     let (first, second) = ends;

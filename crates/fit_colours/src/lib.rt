@@ -1,5 +1,6 @@
-//! The least-squares colours of the partitions of a block, their integers, and an estimate of their
-//! cost. Sums wrap. No clause states the quality of the results, which is measured.
+//! The colours of a fit: least-squares endpoints of the partitions of a block for given weights,
+//! the colour integers that encode them, and estimates of the error. Arithmetic wraps. The quality
+//! of the results is measured, not proved.
 #![tactic(auto)]
 
 mod coding;

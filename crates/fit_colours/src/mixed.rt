@@ -1,14 +1,15 @@
-// The cost of partitions with endpoint modes of two classes, one after the other.
+// The cost of partitions with endpoint modes from two neighbouring classes, which a block with
+// separate modes can combine.
 use ideal_weights::{MOST, Number, number};
 
-/// An endpoint mode and about the error with it, in 1/256.
+/// An endpoint mode, and approximately the error with it in 1/256.
 #[derive(Clone, Copy)]
 pub struct Cost {
     pub error: Number,
     pub cem: u8,
 }
 
-/// The cost of a partition with an endpoint mode of a class, and of the class above it.
+/// The costs of a partition with an endpoint mode of a class, and with one of the class above it.
 #[derive(Clone, Copy)]
 pub struct Choice {
     pub low: Cost,
@@ -16,7 +17,7 @@ pub struct Choice {
 }
 
 impl Choice {
-    /// The choice without a partition.
+    /// Returns the choice of a missing partition, with costs of 0.
     pub fn none() -> Choice {
         let none = Cost {
             error: number(0),
@@ -28,24 +29,24 @@ impl Choice {
         }
     }
 
-    /// The least of both.
+    /// Returns the smaller cost.
     #[inline(always)]
     pub fn least(&self) -> Number {
         self.high.error.min(self.low.error)
     }
 }
 
-/// The choice of each partition; 0 past the last.
+/// The choice of each partition; costs of 0 after the last one.
 pub type Choices = [Choice; 4];
 
-// How much a part wins by the higher class.
+// How much the higher class reduces the cost of a partition.
 #[derive(Clone, Copy)]
 struct Win {
     saved: Number,
     part: usize,
 }
 
-// The wins of the parts, the greatest first.
+// The wins of the partitions, the greatest first.
 fn wins_of(choices: &Choices, parts: usize) -> [Win; 4] {
     let mut wins = [Win {
         saved: -MOST,
@@ -65,7 +66,7 @@ fn wins_of(choices: &Choices, parts: usize) -> [Win; 4] {
     wins
 }
 
-/// The least costs of the partitions if none, one and so on to all of them have the higher class.
+/// Returns the least cost of all partitions if 0, 1, 2, 3 or 4 of them have the higher class.
 pub fn costs_by_count(choices: &Choices, parts: usize) -> [Number; 5] {
     let wins = wins_of(choices, parts);
     let mut total = number(0);
@@ -80,7 +81,7 @@ pub fn costs_by_count(choices: &Choices, parts: usize) -> [Number; 5] {
     costs
 }
 
-/// The endpoint modes of the partitions at this cost, if this number of them has the higher class.
+/// Returns the endpoint modes with the least cost if `high` partitions have the higher class.
 pub fn cems_of(choices: &Choices, parts: usize, high: usize) -> [u8; 4] {
     let mut cems = [0; 4];
     for part in 0..parts.min(4) {

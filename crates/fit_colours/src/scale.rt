@@ -1,9 +1,9 @@
-// The scale of the endpoint modes whose first colour is the second one scaled.
+// The scale of modes 6 and 10, whose first endpoint is the second one times a scale.
 use crate::ends::{ChannelSums, FitSums};
 use ideal_weights::{BlockLayout, Number, byte, nearest_quotient, number, quotient};
 
-// The reduction of the squared differences by a scale in a plane's channels, as the ratio of two
-// forms in it.
+// The reduction of the squared differences in a plane's channels by a scale, as the quotient of two
+// quadratic forms of the scale.
 #[derive(Clone, Copy, Default)]
 struct Ratio {
     above: [Number; 3],
@@ -16,27 +16,27 @@ impl Ratio {
         self.above[0] += gain * uz * uz;
         self.above[1] += gain * uz * wz;
         self.above[2] += gain * wz * wz;
-        // The channels of a plane have the same weights, and so the same sums of them.
+        // All channels of a plane have the same weights, and so the same sums of weights.
         self.below = [sums.uu >> 16, sums.uw >> 16, sums.ww >> 16];
     }
 
-    // With a scale in 1/256.
+    // The reduction with a scale in 1/256.
     fn at(&self, scale: Number) -> Number {
         quotient(form_at(&self.above, scale), form_at(&self.below, scale))
     }
 }
 
-// About a s^2 + 2 b s + c.
+// Approximately a * s^2 + 2 * b * s + c, where s is the scale / 256.
 fn form_at(form: &[Number; 3], scale: Number) -> Number {
     let [square, both, rest] = *form;
     (scale * scale * square + ((scale * both) << 9) + (rest << 16)) >> 16
 }
 
-// The reductions that both planes share.
+// The reductions in both planes.
 #[derive(Clone, Copy)]
 struct Ratios {
     by_plane: [Ratio; 2],
-    // The second plane has red, green or blue.
+    // Whether the second plane has red, green or blue.
     is_split: bool,
 }
 
@@ -51,8 +51,8 @@ impl Ratios {
     }
 }
 
-/// The values that the second colour should have in red, green and blue, if the first is this
-/// number of 256ths of it.
+/// Returns the ideal red, green and blue of the second endpoint, if the first is `scale` / 256
+/// times the second.
 pub fn scaled_values(sums: &FitSums, scale: u8) -> [u8; 3] {
     let mut values = [0; 3];
     let scale = number(i64::from(scale));
@@ -64,14 +64,14 @@ pub fn scaled_values(sums: &FitSums, scale: u8) -> [u8; 3] {
     values
 }
 
-// A scale in 1/256 and what it takes off.
+// A scale in 1/256, and the reduction of the squared differences by it.
 #[derive(Clone, Copy)]
 struct Scale {
     scale: u8,
     taken: Number,
 }
 
-/// About the scale in 1/256 that takes most off the squared differences of a part.
+/// Returns approximately the scale, in 1/256, with the least squared differences in a partition.
 pub fn scale_of(sums: &FitSums, layout: BlockLayout, gains: &[Number; 4]) -> u8 {
     let mut ratios = Ratios {
         by_plane: [Ratio::default(); 2],
@@ -95,7 +95,7 @@ pub fn scale_of(sums: &FitSums, layout: BlockLayout, gains: &[Number; 4]) -> u8 
     best.scale
 }
 
-// The better of a scale so far and of another.
+// The better of the best scale so far and another.
 fn better(best: Scale, ratios: &Ratios, scale: u8) -> Scale {
     let taken = ratios.at(number(i64::from(scale)));
     if taken > best.taken {

@@ -1,4 +1,4 @@
-// The best partitionings in one number of parts.
+// Chooses the best partitionings with a given number of partitions.
 use crate::best_seeds::{BestByRank, NO_SEEDS, RankedSeed};
 use crate::cutoffs::{MissCutoff, Misses};
 use crate::partitioning::{PartitionRun, partitioning_of};
@@ -9,17 +9,17 @@ use crate::ranking::{Ranked, Ranking, rank};
 use crate::ranks::{Ranks, ranks_under};
 use ideal_weights::{BlockLayout, MOST};
 
-/// The data that ranks in a block are made of.
+/// The data of a block from which partitionings are ranked.
 #[derive(Clone, Copy)]
 pub struct RankBasis<'a> {
     pub prefixes: &'a Prefixes<'a>,
     pub positions: &'a Positions,
-    /// Alpha is the same at all texels, or does not count.
+    /// Whether alpha is the same at all texels, or has the weight 0.
     pub opaque: bool,
 }
 
-/// How many partitionings are ranked by lines, 0 for all, and how many of them are tried by each of
-/// the two ranks.
+/// How many partitionings are considered: how many are ranked by their lines (0 for all), and how
+/// many of these are kept by each of the two ranks.
 #[derive(Clone, Copy)]
 pub struct SearchBreadth {
     pub ranked: usize,
@@ -27,28 +27,29 @@ pub struct SearchBreadth {
     pub more: usize,
 }
 
-/// Room for what partitionings miss by, and for the best of them.
+/// Scratch memory for the misses of all partitionings, and for the best ones. The miss of a
+/// partitioning is the distance of its partitions from one colour each.
 #[derive(Clone, Copy)]
 pub struct RankRoom {
     misses: Misses,
     best: BestByRank,
 }
 
-/// Nothing yet.
+/// The memory before the first block.
 pub static NO_RANK_ROOM: RankRoom = RankRoom {
     misses: [0; 1024],
     best: NO_SEEDS,
 };
 
-/// The distinct partitionings with one number of partitions: those that are kept, or those of
-/// seeds.
+/// The distinct partitionings with one number of partitions: from stored tables, or computed from
+/// the seeds.
 #[derive(Clone, Copy)]
 pub enum PartitioningSource<'a> {
     Kept(PartitioningList<'a>),
     Found(&'a Seeds),
 }
 
-/// The partitionings in one number of parts.
+/// The partitionings with one number of partitions.
 #[derive(Clone, Copy)]
 pub struct PartitioningChoices<'a> {
     pub parts: u8,
@@ -78,7 +79,7 @@ impl PartitioningChoices<'_> {
         }
     }
 
-    // The ranks of the partitioning of a seed, which is made for it.
+    // The ranks of the partitioning of a seed, which is computed for this.
     #[inline(never)]
     fn ranks_of_seed<const W: usize, const H: usize>(
         &self,
@@ -104,7 +105,7 @@ impl PartitioningChoices<'_> {
         }
     }
 
-    // How far the parts of the partitioning of a seed are from one place each.
+    // The miss of the partitioning of a seed, which is computed for this.
     #[inline(never)]
     fn miss_of_seed<const W: usize, const H: usize>(&self, seed: u16, positions: &Positions) -> u8 {
         let partitioning = partitioning_of::<W, H>(self.parts, seed);
@@ -135,7 +136,7 @@ impl PartitioningChoices<'_> {
         }
     }
 
-    // Puts in the partitionings that a cutoff takes.
+    // Ranks the partitionings that a cutoff admits.
     fn scan<const W: usize, const H: usize>(
         &self,
         best: &mut BestByRank,
@@ -183,7 +184,7 @@ impl PartitioningChoices<'_> {
         }
     }
 
-    /// Ranks the best of them among other layouts.
+    /// Adds the best partitionings to a ranking of layouts.
     pub fn rank_best<const W: usize, const H: usize>(
         &self,
         ranking: &mut Ranking,

@@ -1,19 +1,21 @@
-// Which partitionings are ranked by lines: those whose parts are nearest to one colour each.
+// Selects the partitionings that are ranked by lines: those with the least misses, whose partitions
+// are closest to one colour each.
 
-/// By partitioning, the distance of its partitions from one colour each.
+/// For each partitioning, the distance of its partitions from one colour each, 0 to 255.
 pub type Misses = [u8; 1024];
 
-// How many miss by each number.
+// The number of partitionings for each value of the miss.
 type MissCounts = [u16; 256];
 
-/// All that miss by less than `most`, and the first `room` of those that miss by as much.
+/// A cutoff that admits all partitionings with a miss below `most`, and the first `room` of those
+/// whose miss is `most`.
 #[derive(Clone, Copy)]
 pub struct MissCutoff {
     most: u8,
     room: usize,
 }
 
-// Counts the first misses.
+// Counts the misses of the first `first` partitionings.
 fn count(counts: &mut MissCounts, misses: &Misses, first: usize) {
     for miss in misses.iter().take(first) {
         let place = usize::from(*miss);
@@ -22,12 +24,12 @@ fn count(counts: &mut MissCounts, misses: &Misses, first: usize) {
 }
 
 impl MissCutoff {
-    /// The cutoff that takes all, if none misses by 255.
+    /// Returns a cutoff that admits all partitionings whose miss is below 255.
     pub fn all() -> MissCutoff {
         MissCutoff { most: 255, room: 0 }
     }
 
-    /// The cutoff that takes `ranked` of the first `among`.
+    /// Returns the cutoff that admits `ranked` of the first `among` partitionings.
     pub fn of(misses: &Misses, among: usize, ranked: usize) -> MissCutoff {
         let mut counts = [0; 256];
         count(&mut counts, misses, among);
@@ -46,7 +48,7 @@ impl MissCutoff {
         cutoff
     }
 
-    /// Whether the next partitioning is taken.
+    /// Returns whether the next partitioning is admitted. Calls must be in order.
     pub fn takes(&mut self, miss: u8) -> bool {
         if miss < self.most {
             return true;

@@ -1,6 +1,6 @@
-//! The layouts of blocks with the smallest estimated errors: one partition, a second plane, and the
-//! best of the partitionings that seeds give. Sums wrap. No clause states the quality of the
-//! estimates, which is measured.
+//! Estimates which layouts (partitionings and second planes) of a block have the smallest errors,
+//! before any block is fitted: one partition, a second plane, and the best of the partitionings of
+//! all seeds. Arithmetic wraps. The quality of the estimates is measured, not proved.
 #![tactic(auto)]
 
 mod best_seeds;

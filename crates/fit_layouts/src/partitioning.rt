@@ -1,22 +1,23 @@
-// The partitioning that a seed gives.
+// The partitioning of a seed, as runs of places.
 use arrayvec::ArrayVec;
 use ideal_weights::{places, put_parts};
 
-/// Places of one part in a row, in the order of a block's places.
+/// A run of neighbouring places, in row order, that belong to one partition.
 #[derive(Clone, Copy, Default)]
 pub struct PartitionRun {
     /// The first place.
     pub start: u8,
     /// The place after the last.
     pub end: u8,
-    /// 0 to 3.
+    /// The partition, 0 to 3.
     pub part: u8,
 }
 
-/// The runs of a block.
+/// The runs of a block, in row order.
 pub type PartitionRuns = ArrayVec<PartitionRun, 144>;
 
-// The names of parts in the order in which they come first, and how many runs each has.
+// Names for partitions in the order in which they first occur, so that partitionings that differ
+// only in the numbers of their partitions become equal. Each name has the number of its runs.
 #[derive(Clone, Copy)]
 struct Names {
     names: [u8; 4],
@@ -33,7 +34,7 @@ impl Names {
         }
     }
 
-    // The name of a part that a run has, 0 to 3; one that has none yet gets the next.
+    // The name of a partition to which a run belongs; an unnamed partition gets the next name.
     fn name(&mut self, part: u8) -> u8 {
         let place = usize::from(part & 3);
         if self.names[place] > 3 {
@@ -58,7 +59,7 @@ impl Names {
     }
 }
 
-// All runs of a map of parts, by names.
+// All runs of a map of partitions, with names for the partitions.
 fn named_runs<const W: usize, const H: usize>(map: &[u8; 144], names: &mut Names) -> PartitionRuns {
     let mut runs = ArrayVec::new();
     let mut part = map[0];
@@ -77,24 +78,24 @@ fn named_runs<const W: usize, const H: usize>(map: &[u8; 144], names: &mut Names
     runs
 }
 
-/// The runs of the partitioning that a seed gives, except for those of the part that has the most:
-/// that part is named 0, and has what the others leave.
+/// The runs of a partitioning without those of the partition that has the most runs: this partition
+/// is named 0, and has all places that are not in a run.
 #[derive(Drop)]
 pub struct Partitioning {
     runs: PartitionRuns,
-    /// How many parts have a place.
+    /// The number of partitions that have a place.
     parts: u8,
 }
 
 impl Partitioning {
-    /// The runs, in the order of a block's places.
+    /// Returns the runs in row order.
     #[inline(always)]
     pub fn runs(&self) -> &[PartitionRun] {
         self.runs.as_slice()
     }
 }
 
-/// The partitioning that a seed gives.
+/// Returns the partitioning of a seed.
 #[inline(never)]
 pub fn partitioning_of<const W: usize, const H: usize>(parts: u8, seed: u16) -> Partitioning {
     let mut names = Names::new();
@@ -115,7 +116,7 @@ pub fn partitioning_of<const W: usize, const H: usize>(parts: u8, seed: u16) -> 
     }
 }
 
-// A hash of runs.
+// A hash of a list of runs.
 fn hash_of(runs: &[PartitionRun]) -> u64 {
     let mut hash = 0xcbf2_9ce4_8422_2325u64;
     for run in runs {
@@ -129,22 +130,22 @@ fn hash_of(runs: &[PartitionRun]) -> u64 {
     hash
 }
 
-/// Which partitionings came before, by hashes of their runs. Two of one hash are taken for the
-/// same: a false twin is not tried, and costs quality alone.
+/// A set of partitionings, as hashes of their runs. Two partitionings with the same hash count as
+/// equal: a collision leaves one out, which can only reduce quality.
 #[derive(Clone, Copy)]
 pub struct SeenPartitionings {
-    // At most 1,024 hashes, each at the first free place from its home place on; 0 for a free
-    // place.
+    // A hash table with open addressing: at most 1,024 hashes, each in the first free entry from
+    // its home on; 0 is a free entry.
     hashes: [u64; 2048],
 }
 
 impl SeenPartitionings {
-    /// None so far.
+    /// Returns the empty set.
     pub fn new() -> SeenPartitionings {
         SeenPartitionings { hashes: [0; 2048] }
     }
 
-    // Whether a hash is a new one.
+    // Adds a hash. Returns whether it is new.
     fn is_new(&mut self, hash: u64) -> bool {
         let hash = hash.max(1);
         let own = (hash & 2047) as usize;
@@ -161,7 +162,8 @@ impl SeenPartitionings {
         false
     }
 
-    /// Whether a partitioning leaves none of its partitions empty, and differs from those before.
+    /// Adds a partitioning. Returns whether each of its `parts` partitions has a place and the set
+    /// did not contain it before.
     pub fn is_first(&mut self, partitioning: &Partitioning, parts: u8) -> bool {
         partitioning.parts == parts && self.is_new(hash_of(partitioning.runs()))
     }

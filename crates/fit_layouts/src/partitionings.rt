@@ -1,4 +1,4 @@
-// The partitionings of a block that seeds give.
+// The distinct partitionings of all seeds in blocks of a footprint.
 ghost use Rattle.std.specs.Prelude.{◌≤◌};
 
 use crate::partitioning::{PartitionRun, SeenPartitionings, partitioning_of};
@@ -6,10 +6,11 @@ use crate::positions::{Shares, masks_of, shares_of, words};
 use astc_model::Footprint;
 use std::alloc::{AllocError, Global};
 
-// The shares without a partitioning.
+// The shares if there is no partitioning.
 static NO_SHARES: Shares = [0; 4];
 
-// The places of a partitioning's runs and masks in the lists of all, and its shares.
+// A partitioning: its seed, the index ranges of its runs and its masks in the common lists, and its
+// shares.
 #[derive(Clone, Copy, Default)]
 struct SeedEntry {
     seed: u16,
@@ -26,17 +27,17 @@ pub struct PartitioningList<'a> {
     // The runs of all partitionings.
     runs: &'a [PartitionRun],
     masks: &'a [u64],
-    // The number of words of the masks of each.
+    // The number of words of the masks of one partitioning.
     stride: usize,
 }
 
 impl<'a> PartitioningList<'a> {
-    /// The number of partitionings, 1,024 at most; 0 if they are unknown.
+    /// Returns the number of partitionings, at most 1,024; 0 if there are no tables.
     pub fn count(&self) -> usize {
         self.entries.len()
     }
 
-    /// The seed of a partitioning; 0 if there is none.
+    /// Returns the seed of partitioning `at`; 0 if `at` is out of range.
     pub fn seed(&self, at: usize) -> u16 {
         match self.entries.get(at) {
             Some(entry) => entry.seed,
@@ -44,7 +45,7 @@ impl<'a> PartitioningList<'a> {
         }
     }
 
-    /// The runs of a partitioning; none if there is none.
+    /// Returns the runs of partitioning `at`; empty if `at` is out of range.
     #[inline(always)]
     pub fn runs(&self, at: usize) -> &'a [PartitionRun] {
         match self.entries.get(at) {
@@ -56,7 +57,7 @@ impl<'a> PartitioningList<'a> {
         }
     }
 
-    /// The masks of a partitioning, and its shares; none if there is none.
+    /// Returns the masks and the shares of partitioning `at`; empty and 0 if `at` is out of range.
     #[inline(always)]
     pub fn masks(&self, at: usize) -> (&'a [u64], &'a Shares) {
         match self.entries.get(at) {
@@ -70,8 +71,8 @@ impl<'a> PartitioningList<'a> {
     }
 }
 
-/// The distinct partitionings of a block that seeds give: none that leaves a partition empty or
-/// repeats a lesser seed's.
+/// The distinct partitionings of a block: those that leave a partition empty, or equal that of a
+/// smaller seed, are left out.
 #[derive(Clone, Copy)]
 pub struct PartitioningView<'a> {
     entries: &'a [SeedEntry],
@@ -81,7 +82,7 @@ pub struct PartitioningView<'a> {
     words: usize,
 }
 
-// Which of two, three and four parts.
+// The index of a number of partitions (two to four), 0 to 2.
 fn rank_of(parts: u8) -> usize
     ensures { result ≤ 2 }
 {
@@ -89,7 +90,7 @@ fn rank_of(parts: u8) -> usize
 }
 
 impl<'a> PartitioningView<'a> {
-    /// None is known.
+    /// Returns a view without tables.
     pub fn none() -> PartitioningView<'a> {
         PartitioningView {
             entries: &[],
@@ -100,7 +101,7 @@ impl<'a> PartitioningView<'a> {
         }
     }
 
-    /// The partitionings with this number of partitions, two to four.
+    /// Returns the partitionings with `parts` partitions, two to four.
     pub fn of(&self, parts: u8) -> PartitioningList<'a> {
         let rank = rank_of(parts);
         let own = self.ends[rank]..self.ends[rank + 1];
@@ -118,12 +119,12 @@ impl<'a> PartitioningView<'a> {
 pub struct Seeds {
     list: [u16; 1024],
     count: usize,
-    // The number of runs of the partitionings.
+    // The total number of runs of the partitionings.
     runs: usize,
 }
 
 impl Seeds {
-    /// The seeds for blocks of a footprint.
+    /// Computes the seeds for blocks of a footprint.
     #[inline(never)]
     pub fn of<const W: usize, const H: usize>(parts: u8) -> Seeds {
         let mut seeds = Seeds {
@@ -147,18 +148,18 @@ impl Seeds {
         self.runs = self.runs.wrapping_add(runs.len());
     }
 
-    /// The number, 1,024 at most.
+    /// Returns the number of seeds, at most 1,024.
     pub fn count(&self) -> usize {
         self.count
     }
 
-    /// The seed at a place.
+    /// Returns seed `at`.
     pub fn seed(&self, at: usize) -> u16 {
         self.list[at & 1023]
     }
 }
 
-// The seeds of two, three and four parts.
+// The seeds for two, three and four partitions.
 type AllSeeds = [Seeds; 3];
 
 fn all_seeds<const W: usize, const H: usize>() -> AllSeeds {
@@ -169,20 +170,20 @@ fn all_seeds<const W: usize, const H: usize>() -> AllSeeds {
     ]
 }
 
-// The ends of the partitionings of each number of partitions in the list.
+// The end of the partitionings with each number of partitions in the common list.
 fn ends_of(seeds: &AllSeeds) -> [usize; 4] {
     let two = seeds[0].count;
     let three = two.wrapping_add(seeds[1].count);
     [0, two, three, three.wrapping_add(seeds[2].count)]
 }
 
-// The number of runs in all.
+// The number of runs of all partitionings.
 fn run_count(seeds: &AllSeeds) -> usize {
     let two = seeds[0].runs;
     two.wrapping_add(seeds[1].runs).wrapping_add(seeds[2].runs)
 }
 
-// How many words of masks.
+// The number of words of the masks of all partitionings.
 fn word_count<const W: usize, const H: usize>(seeds: &AllSeeds) -> usize {
     let three = seeds[1].count.wrapping_mul(2);
     let four = seeds[2].count.wrapping_mul(3);
@@ -190,7 +191,7 @@ fn word_count<const W: usize, const H: usize>(seeds: &AllSeeds) -> usize {
     words::<W, H>().wrapping_mul(masks)
 }
 
-// The memory for partitionings; those without room are left out.
+// The memory for partitionings, which are left out if it is full.
 #[derive(Drop)]
 struct Room<'a> {
     entries: &'a mut [SeedEntry],
@@ -198,7 +199,7 @@ struct Room<'a> {
     masks: &'a mut [u64],
 }
 
-// How many of each there are so far.
+// The number of entries, runs and words that are filled.
 #[derive(Clone, Copy)]
 struct Filled {
     entries: usize,
@@ -206,7 +207,7 @@ struct Filled {
     masks: usize,
 }
 
-// A count as an entry has it.
+// A count as the type of an entry.
 fn short(count: usize) -> u32 {
     u32::try_from(count).unwrap_or(u32::MAX)
 }
@@ -224,7 +225,7 @@ fn put_words(places: &mut [u64], first: usize, own: &[u64]) {
 }
 
 impl Room<'_> {
-    // Appends the partitioning of a seed to those that are there.
+    // Appends the partitioning of a seed.
     fn put<const W: usize, const H: usize>(&mut self, filled: &mut Filled, parts: u8, seed: u16) {
         let partitioning = partitioning_of::<W, H>(parts, seed);
         let runs = partitioning.runs();
@@ -246,7 +247,7 @@ impl Room<'_> {
         filled.masks = filled.masks.wrapping_add(masks.len());
     }
 
-    // Puts in the partitionings in one number of parts.
+    // Appends the partitionings with one number of partitions.
     fn put_all<const W: usize, const H: usize>(
         &mut self,
         filled: &mut Filled,
@@ -270,7 +271,7 @@ impl Room<'_> {
     }
 }
 
-/// The partitionings of a block in memory.
+/// The distinct partitionings of a block in vectors.
 #[derive(Drop)]
 pub struct PartitioningTables {
     entries: Vec<SeedEntry>,
@@ -281,7 +282,7 @@ pub struct PartitioningTables {
 }
 
 impl PartitioningTables {
-    /// The partitionings for blocks of a footprint.
+    /// Computes the partitionings for blocks of a footprint.
     ///
     /// # Errors
     ///
@@ -313,7 +314,7 @@ impl PartitioningTables {
         Ok(tables)
     }
 
-    /// The view for the fits of blocks.
+    /// Returns a view of the partitionings for the fits of blocks.
     pub fn view(&self) -> PartitioningView<'_> {
         PartitioningView {
             entries: self.entries.as_slice(),
@@ -325,7 +326,7 @@ impl PartitioningTables {
     }
 }
 
-/// The same without memory, in room for the blocks of any footprint.
+/// The distinct partitionings of a block in arrays, with room for any footprint.
 #[derive(Clone, Copy)]
 pub struct PartitioningArrays {
     entries: [SeedEntry; 2112],
@@ -336,7 +337,7 @@ pub struct PartitioningArrays {
 }
 
 impl PartitioningArrays {
-    /// The partitionings for blocks of a footprint.
+    /// Computes the partitionings for blocks of a footprint.
     pub fn new<const W: usize, const H: usize>(_footprint: Footprint<W, H>) -> PartitioningArrays {
         let seeds = all_seeds::<W, H>();
         let mut arrays = PartitioningArrays {
@@ -355,7 +356,7 @@ impl PartitioningArrays {
         arrays
     }
 
-    /// The view for the fits of blocks.
+    /// Returns a view of the partitionings for the fits of blocks.
     pub fn view(&self) -> PartitioningView<'_> {
         PartitioningView {
             entries: &self.entries,

@@ -1,5 +1,6 @@
-// How near the parts of partitionings are to one place each, along the main line of a block or by
-// channel.
+// The miss of a partitioning: the squared distance of the texels from the mean of their partition.
+// Positions are rounded to sixteen steps, along the main line of a block or by channel, so that 16
+// texels fit into a word.
 ghost use Rattle.std.specs.Prelude.{◌≤◌};
 
 use crate::partitioning::PartitionRun;
@@ -7,24 +8,25 @@ use crate::spread::Spread;
 use arrayvec::ArrayVec;
 use ideal_weights::{IdealWeights, Lanes, Texels, number, places};
 
-// Four bits for each of sixteen places, from the lowest on.
+// A word with four bits for each of sixteen places, the first place lowest.
 type Nibbles = u64;
 
 /// The words of a block; the bits after its last place are 0.
 pub type BlockNibbles = [u64; 9];
 
-/// All four bits of the places of each part but the first, one part's words after the other's.
+/// The masks of all partitions but the first: four bits set at each place of the partition. The
+/// words of one partition follow those of the one before.
 pub type Masks = ArrayVec<u64, 27>;
 
-/// By part 65536 over the number of its places.
+/// For each partition 65536 divided by the number of its places.
 pub type Shares = [u32; 4];
 
-// The lower half of each byte, and the lower byte of each of four pairs.
+// Masks for the lower half of each byte, and for the lower byte of each pair of bytes.
 static LOWER: u64 = 0x0f0f_0f0f_0f0f_0f0f;
 
 static EVEN: u64 = 0x00ff_00ff_00ff_00ff;
 
-/// The number of words of a block.
+/// Returns the number of words of a block.
 #[inline(always)]
 pub fn words<const W: usize, const H: usize>() -> usize
     ensures { result ≤ 9 }
@@ -32,7 +34,7 @@ pub fn words<const W: usize, const H: usize>() -> usize
     (places::<W, H>() + 15) / 16
 }
 
-// Sets four bits of a place that are 0.
+// Sets the four bits of a place, which are 0 before.
 fn put(words: &mut BlockNibbles, place: usize, value: u64) {
     let shift = ((place & 15) as u32).wrapping_mul(4);
     words[(place / 16).min(8)] |= value.wrapping_shl(shift);
@@ -44,7 +46,7 @@ fn put_run(words: &mut BlockNibbles, run: &PartitionRun) {
     }
 }
 
-/// The masks of a partitioning.
+/// Returns the masks of a partitioning.
 pub fn masks_of<const W: usize, const H: usize>(runs: &[PartitionRun], parts: u8) -> Masks {
     let mut by_part = [[0; 9]; 4];
     for run in runs {
@@ -57,7 +59,7 @@ pub fn masks_of<const W: usize, const H: usize>(runs: &[PartitionRun], parts: u8
     masks
 }
 
-/// The shares of a partitioning.
+/// Returns the shares of a partitioning.
 pub fn shares_of<const W: usize, const H: usize>(runs: &[PartitionRun]) -> Shares {
     let mut counts = [0u32; 4];
     for run in runs {
@@ -73,33 +75,33 @@ pub fn shares_of<const W: usize, const H: usize>(runs: &[PartitionRun]) -> Share
     shares
 }
 
-// The terms of a word in eight sums.
+// Adds neighbouring pairs of the sixteen fields of a word: eight sums in bytes.
 #[inline(always)]
 fn sums_of(word: Nibbles) -> u64 {
     (word & LOWER).wrapping_add(word >> 4 & LOWER)
 }
 
-// The total of eight sums.
+// The total of eight sums in bytes.
 #[inline(always)]
 fn total_of(sums: u64) -> u32 {
     let pairs = (sums & EVEN).wrapping_add(sums >> 8 & EVEN);
     (pairs.wrapping_mul(0x1_0001_0001_0001) >> 48) as u32
 }
 
-// The square of a sum over a number of places, in 1/65536.
+// The square of a sum divided by the number of its places, in 1/65536.
 #[inline(always)]
 fn taken(sum: u32, share: u32) -> u32 {
     sum.wrapping_mul(sum).wrapping_mul(share)
 }
 
-// A step of sixteen for each texel inside the image; the middle elsewhere.
+// A step of 0 to 15 at an inside place; the middle (8) elsewhere.
 #[inline(always)]
 fn step_of(step: i32, inside: i16) -> i16 {
     let own = step.clamp(0, 15) as i16;
     own & inside | 8 & !inside
 }
 
-// The steps of texels along the main line of the block.
+// The steps of the texels along the main line of the block.
 fn steps_along<const W: usize, const H: usize>(ideal: &IdealWeights, texels: &Texels) -> Lanes {
     let mut steps = [0; 160];
     for p in 0..places::<W, H>() {
@@ -109,7 +111,7 @@ fn steps_along<const W: usize, const H: usize>(ideal: &IdealWeights, texels: &Te
     steps
 }
 
-// The least value of a channel, and its distance to the greatest.
+// The least value of a channel, and the difference to the greatest.
 #[derive(Clone, Copy)]
 struct Range {
     least: i16,
@@ -128,7 +130,7 @@ fn range_of<const W: usize, const H: usize>(values: &Lanes, inside: &Lanes) -> R
     }
 }
 
-// The steps of a channel's values, if sixteen are so long.
+// The steps of a channel's values, if sixteen steps cover the length `long`.
 fn steps_from<const W: usize, const H: usize>(
     values: &Lanes,
     inside: &Lanes,
@@ -144,7 +146,7 @@ fn steps_from<const W: usize, const H: usize>(
     steps
 }
 
-// Which channels differ among texels, and count.
+// The channels that differ among the texels and have a weight over 0.
 fn counts_of(texels: &Texels) -> [bool; 4] {
     let mut counts = [false; 4];
     for c in 0..4 {
@@ -161,7 +163,7 @@ fn ranges_of<const W: usize, const H: usize>(texels: &Texels) -> [Range; 4] {
     ranges
 }
 
-// The longest of the ranges that count.
+// The longest range among the channels that count.
 fn longest_of(ranges: &[Range; 4], counts: &[bool; 4]) -> i16 {
     let mut longest = 0;
     for c in 0..4 {
@@ -172,7 +174,8 @@ fn longest_of(ranges: &[Range; 4], counts: &[bool; 4]) -> i16 {
     longest
 }
 
-// The positions of the texels of a block along an axis.
+// The positions of the texels of a block along one axis, with their sum and the sum of their
+// squares.
 #[derive(Clone, Copy)]
 struct Projection {
     words: BlockNibbles,
@@ -198,14 +201,14 @@ impl Projection {
         own
     }
 
-    // The sum over the places of a partition's mask, at this distance after the first.
+    // The sum of the positions in the mask that begins at word `first`.
     #[inline(always)]
     fn sum<const W: usize, const H: usize>(&self, masks: &[u64], first: usize) -> u32 {
         let (mut sums, mut last) = (0u64, 0u64);
         if let Some(mask) = masks.get(first..first.wrapping_add(words::<W, H>())) {
             for k in 0..words::<W, H>() {
                 let own = sums_of(self.words[k] & mask.get(k).copied().unwrap_or(0));
-                // Eight words of at most 30 fill a byte.
+                // A byte holds eight words of at most 30.
                 if k < 8 {
                     sums = sums.wrapping_add(own);
                 } else {
@@ -216,8 +219,7 @@ impl Projection {
         total_of(sums).wrapping_add(total_of(last))
     }
 
-    // The reduction of the sum of the squares by the means of the partitions of a partitioning, in
-    // 1/65536.
+    // The amount by which the means of the partitions reduce the sum of the squares, in 1/65536.
     #[inline(always)]
     fn taken<const W: usize, const H: usize>(
         &self,
@@ -237,21 +239,21 @@ impl Projection {
     }
 }
 
-/// The positions of the texels of a block, in sixteen steps: along its main line if they are close
-/// to it, else by channel.
+/// The positions of the texels of a block in sixteen steps: along the main line if the texels are
+/// close to it, else along each channel.
 #[derive(Clone, Copy)]
 pub struct Positions {
     axes: [Projection; 4],
     count: usize,
-    // The sum of the squares, in 1/65536; like its reduction modulo 2^32, which no difference
-    // reaches.
+    // The sum of the squares, in 1/65536. The sum and its reductions may wrap at 2^32, but their
+    // difference does not.
     squares: u32,
-    // 255 over the squared distance of all from their mean, in 1/2^32.
+    // 255 divided by the squared distance of all texels from their mean, in 1/2^32.
     unit: u64,
 }
 
-// Texels are close to a line if this multiple of the squared distance from it is less than that
-// from their mean.
+// Texels are close to a line if the squared distance from it, times this number, is less than the
+// squared distance from their mean.
 static NEAR: i64 = 16;
 
 /// The positions before the first block.
@@ -263,8 +265,8 @@ pub static NO_POSITIONS: Positions = Positions {
 };
 
 impl Positions {
-    /// Turns to a block with these ideal weights along the main line of all texels, which have this
-    /// spread about it.
+    /// Computes the positions for a block. `ideal` has the weights along the main line of all
+    /// texels, `spread` their distances from it.
     #[inline(never)]
     pub fn turn_to<const W: usize, const H: usize>(
         &mut self,
@@ -288,7 +290,7 @@ impl Positions {
         self.squares = self.squares.wrapping_add(axis.squares);
     }
 
-    // A step is as long in each channel.
+    // Adds an axis for each channel that counts. A step has the same length in all channels.
     fn add_channels<const W: usize, const H: usize>(&mut self, texels: &Texels) {
         let counts = counts_of(texels);
         let ranges = ranges_of::<W, H>(texels);
@@ -311,8 +313,8 @@ impl Positions {
         self.unit = (255u64 << 32) / u64::from(variance.max(1));
     }
 
-    /// How far the parts of a partitioning are from one place each, 0 to 255, the block being 255
-    /// from its mean.
+    /// Returns the miss of a partitioning, 0 to 255: the squared distance of the texels from the
+    /// means of their partitions, where 255 stands for that from the mean of the block.
     #[inline(always)]
     pub fn miss<const W: usize, const H: usize>(
         &self,

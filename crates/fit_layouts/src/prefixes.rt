@@ -1,26 +1,26 @@
-// Sums of the texels before each place of a block, in rows from the top: those of a run of
-// places are the difference of two.
+// Prefix sums over the texels of a block in row order: the sums over a run of places are the
+// difference of two prefix sums.
 ghost use Rattle.std.specs.Prelude.{◌<◌};
 
 use crate::partitioning::PartitionRun;
 use ideal_weights::{Number, Texels, places};
 
-/// The number of some texels, the sums of red, green and blue and of their six products, then the
-/// sums with alpha.
+/// The number of texels, then the sums of red, green and blue and of their six products, then alpha
+/// and its four products.
 pub type PrefixSums = [i32; 16];
 
-/// By a number of texels 65536 over it; 0 for none.
+/// For each number of texels 65536 divided by it; 0 for 0.
 pub type Shares = [u64; 145];
 
-/// The sums before each place of a block, and at 255 those of all its places; a channel that does
-/// not count is as if it were 0.
+/// The sums over all places before each place of a block, and at index 255 over all places. A
+/// channel with the weight 0 counts as 0.
 #[derive(Clone, Copy)]
 pub struct Prefixes<'a> {
     pub full: &'a [PrefixSums; 256],
     pub shares: &'a Shares,
 }
 
-// The terms of the texel at a place in the sums.
+// The terms of the texel at place `p` in the sums.
 #[inline(always)]
 fn sums_at(texels: &Texels, counts: &[i32; 4], p: usize) -> PrefixSums
     requires { p < 144 }
@@ -56,7 +56,7 @@ fn add(sums: &mut PrefixSums, more: &PrefixSums) {
     }
 }
 
-// -1 for each channel that counts.
+// -1 for each channel with a weight over 0, else 0.
 fn counts_of(gains: &[Number; 4]) -> [i32; 4] {
     let mut counts = [0; 4];
     for c in 0..4 {
@@ -72,7 +72,7 @@ fn add_between(sums: &mut PrefixSums, end: &PrefixSums, start: &PrefixSums) {
     }
 }
 
-// The same without what alpha has but with itself, blue and green.
+// Adds the sums over a run, without those of alpha that an opaque block does not need.
 #[inline(always)]
 fn add_opaque_between(sums: &mut PrefixSums, end: &PrefixSums, start: &PrefixSums) {
     for k in 0..12 {
@@ -80,7 +80,7 @@ fn add_opaque_between(sums: &mut PrefixSums, end: &PrefixSums, start: &PrefixSum
     }
 }
 
-// The rest of all after three partitions.
+// The sums over partition 0: all texels without those of the other three partitions.
 #[inline(always)]
 fn rest(all: &PrefixSums, others: &[PrefixSums; 4]) -> PrefixSums {
     let mut rest = [0; 16];
@@ -91,7 +91,7 @@ fn rest(all: &PrefixSums, others: &[PrefixSums; 4]) -> PrefixSums {
     rest
 }
 
-/// Puts in the sums of a block; those before the first place are 0 from the beginning.
+/// Computes the sums of a block. The sums before the first place are 0 from the beginning.
 #[inline(never)]
 pub fn fill_sums<const W: usize, const H: usize>(full: &mut [PrefixSums; 256], texels: &Texels) {
     let counts = counts_of(&texels.gains);
@@ -103,7 +103,7 @@ pub fn fill_sums<const W: usize, const H: usize>(full: &mut [PrefixSums; 256], t
     full[255] = sums;
 }
 
-/// Puts in the shares of 0 to 144.
+/// Computes the shares of 0 to 144.
 #[inline(never)]
 pub fn put_shares(shares: &mut Shares) {
     for (share, count) in shares.iter_mut().zip(0u32..145) {
@@ -112,8 +112,8 @@ pub fn put_shares(shares: &mut Shares) {
 }
 
 impl Prefixes<'_> {
-    /// The sums of each partition of a partitioning; without those with alpha if the block is
-    /// opaque.
+    /// Returns the sums over each partition of a partitioning; without those of alpha if the block
+    /// is opaque.
     #[inline(always)]
     pub fn sums<const OPAQUE: bool>(&self, runs: &[PartitionRun]) -> [PrefixSums; 4] {
         let mut sums = [[0; 16]; 4];

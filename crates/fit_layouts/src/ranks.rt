@@ -1,15 +1,15 @@
-// How well partitionings suit a block.
+// The ranks of a partitioning: estimates of the error of blocks with it.
 use crate::partitioning::PartitionRun;
 use crate::prefixes::{PrefixSums, Prefixes, Shares};
 use crate::spread::spread_of;
 use ideal_weights::{MOST, Number, Products, number};
 
-/// The squared distance from the main lines of parts, with a small and with a large share of the
-/// spread along them.
+/// The squared distance of the texels from the main lines of their partitions, with a small and
+/// with a large share of the spread along the lines.
 pub type Ranks = [Number; 2];
 
-// The covariances of texels with these sums, times the square of their number; those with alpha are
-// 0 in an opaque block.
+// The covariances of the texels with these sums, times the square of their number. The covariances
+// of alpha are 0 in an opaque block.
 #[inline(always)]
 fn covariances_of<const OPAQUE: bool>(sums: &PrefixSums) -> Products {
     let count = number(i64::from(sums[0]));
@@ -46,7 +46,7 @@ fn covariances_of<const OPAQUE: bool>(sums: &PrefixSums) -> Products {
 fn ranks_of<const OPAQUE: bool>(sums: &PrefixSums, shares: &Shares) -> Ranks {
     let spread = spread_of(&covariances_of::<OPAQUE>(sums));
     let count = sums[0].clamp(0, 144) as usize;
-    // No share is over 65536.
+    // Shares are at most 65536.
     let share = number(i64::from((shares[count] & 0x1_ffff) as u32));
     [
         ((spread.across + (spread.all >> 7)) * share) >> 16,
@@ -54,8 +54,9 @@ fn ranks_of<const OPAQUE: bool>(sums: &PrefixSums, shares: &Shares) -> Ranks {
     ]
 }
 
-/// The ranks of a partitioning; the greatest numbers if neither is under its limit, or a partition
-/// has no texel. In an opaque block alpha is the same at all texels, or does not count.
+/// Returns the ranks of a partitioning. The ranks are the greatest numbers if both reach their
+/// limits or a partition has no texel. `OPAQUE` says that alpha is the same at all texels or has
+/// the weight 0.
 #[inline(never)]
 pub fn ranks_under<const OPAQUE: bool>(
     runs: &[PartitionRun],

@@ -1,4 +1,4 @@
-// The layouts that are tried.
+// The search for the layouts that a fit tries.
 ghost use Rattle.std.specs.Prelude.{◌≤◌};
 
 use crate::choices::{
@@ -14,25 +14,27 @@ use ideal_weights::{
     quotient, statistics_of,
 };
 
-/// How far the search for partitionings goes; each by the number of parts, two, three and four.
+/// How many partitionings the search considers. The arrays have an entry each for two, three and
+/// four partitions.
 #[derive(Clone, Copy)]
 pub struct FitReach {
-    /// How many partitionings are ranked by lines, 0 for all: those whose parts are nearest to one
-    /// colour.
+    /// How many partitionings are ranked by lines, 0 for all: those whose partitions are closest to
+    /// one colour each.
     pub ranked: [usize; 3],
-    /// How many of them come in, 32 at most.
+    /// How many of the ranked ones are tried, at most 32.
     pub tops: [usize; 3],
-    /// How many more by a rank with a larger share of the spread along the lines, 32 at most.
+    /// How many more are tried by a rank with a larger share of the spread along the lines, at most
+    /// 32.
     pub more: [usize; 3],
-    /// The mean squared distance of texels from the lines of the best partitioning so far under
-    /// which none in three or four parts is ranked.
+    /// If the mean squared distance of the texels from the lines of the best partitioning so far is
+    /// below this, three and four partitions are not tried.
     pub near: i64,
-    /// A second plane is tried if its rank is under this number of sixteenths of the rank of one
+    /// A second plane is tried if its rank is below this number of sixteenths of the rank of one
     /// plane.
     pub plane: i64,
 }
 
-// The texels of a whole block: their number, covariances and how often each channel counts.
+// The texels of a whole block: their number, their covariances and the channel weights.
 #[derive(Clone, Copy)]
 struct Whole {
     count: Number,
@@ -41,7 +43,7 @@ struct Whole {
 }
 
 impl Whole {
-    // The spread without one of the channels, or with all if the number names none.
+    // The spread of the texels without channel `without`, or with all channels if it is 4.
     fn spread(&self, without: usize) -> Spread {
         let mut keeps = [false; 4];
         for c in 0..4 {
@@ -50,13 +52,13 @@ impl Whole {
         spread_of(&products_of(&self.covariances, &keeps))
     }
 
-    // The rank so.
+    // The rank of one line without channel `without`.
     fn rank(&self, without: usize) -> Number {
         let spread = self.spread(without);
         quotient(spread.across, self.count) + quotient(spread.all, self.count << 7)
     }
 
-    // The best of the second planes, and one plane if none is better.
+    // The best second plane by rank, or one plane if none is better.
     fn best(&self) -> Ranked {
         let mut best = Ranked {
             rank: self.rank(4),
@@ -84,7 +86,7 @@ fn whole_of<const W: usize, const H: usize>(texels: &Texels) -> Whole {
     }
 }
 
-// The breadth of a reach for this number of partitions, two to four.
+// The breadth of the search for `parts` partitions, two to four.
 fn breadth_of(reach: &FitReach, parts: u8) -> SearchBreadth {
     let k = usize::from(parts).wrapping_sub(2).min(2);
     SearchBreadth {
@@ -101,8 +103,8 @@ fn place_of(parts: u8) -> usize
     usize::from(parts.wrapping_sub(1) & 3)
 }
 
-/// Memory for the search of layouts, passed on from block to block, so that none of it is made
-/// again.
+/// Scratch memory for the search of layouts. One value is reused from block to block, so that no
+/// memory is cleared.
 #[derive(Clone, Copy)]
 pub struct LayoutScratch {
     sums: [PrefixSums; 256],
@@ -110,14 +112,14 @@ pub struct LayoutScratch {
     shares: Shares,
     positions: Positions,
     room: RankRoom,
-    // The ranking of one partition; of two, three and four.
+    // The rankings of layouts with one, two, three and four partitions.
     rankings: [Ranking; 4],
-    // The least rank of a partitioning.
+    // The least rank of a partitioning so far.
     least: Number,
     // The spread of the texels, and the sum of their squared distances from one line.
     spread: Spread,
     line: Number,
-    // The component of the best second plane, 0 if one plane is as close.
+    // The component of the best second plane; 0 if one plane is as close.
     plane: u8,
 }
 
@@ -133,7 +135,7 @@ static NO_LAYOUTS: LayoutScratch = LayoutScratch {
     plane: 0,
 };
 
-// Ranks the best partitionings in one number of parts, which are not known.
+// Ranks the best partitionings with `parts` partitions, which are computed from the seeds.
 #[inline(never)]
 fn rank_found<const W: usize, const H: usize>(
     ranking: &mut Ranking,
@@ -147,7 +149,7 @@ fn rank_found<const W: usize, const H: usize>(
     PartitioningChoices { parts, source }.rank_best::<W, H>(ranking, room, breadth, basis);
 }
 
-// Ranks the best partitionings with this number of partitions.
+// Ranks the best partitionings with `parts` partitions, from the tables if there are any.
 fn rank_in_parts<const W: usize, const H: usize>(
     rankings: &mut [Ranking; 4],
     room: &mut RankRoom,
@@ -167,14 +169,14 @@ fn rank_in_parts<const W: usize, const H: usize>(
 }
 
 impl LayoutScratch {
-    /// The memory before the first block.
+    /// Returns the memory before the first block.
     #[inline(never)]
     pub fn new() -> LayoutScratch {
         NO_LAYOUTS
     }
 
-    /// Turns to a block, and finds the layouts of one partition: one plane, then a second one if
-    /// that ranks much better.
+    /// Begins a block: ranks the layouts with one partition, which are one plane and, if it ranks
+    /// much better, a second plane.
     #[inline(never)]
     pub fn turn_to<const W: usize, const H: usize>(&mut self, reach: &FitReach, texels: &Texels) {
         let whole = whole_of::<W, H>(texels);
@@ -211,8 +213,8 @@ impl LayoutScratch {
         self.positions.turn_to::<W, H>(ideal, texels, self.spread);
     }
 
-    /// Ranks the best partitionings with this number of partitions, two to four, as far as a reach
-    /// goes; unknown ones are computed, which takes longer.
+    /// Ranks the best partitionings with `parts` partitions, two to four, within the given reach.
+    /// Without tables the partitionings are computed, which takes longer.
     #[inline(never)]
     pub fn rank_in<const W: usize, const H: usize>(
         &mut self,
@@ -243,19 +245,19 @@ impl LayoutScratch {
         }
     }
 
-    /// The layouts with this number of partitions, the best rank first; with one partition, one
-    /// plane first.
+    /// Returns the layouts with `parts` partitions, the best rank first; for one partition, one
+    /// plane comes first.
     pub fn ranked(&self, parts: u8) -> &[Ranked] {
         self.rankings[place_of(parts)].as_slice()
     }
 
-    /// The approximate sum of the squared distances of the texels from one line.
+    /// Returns the approximate sum of the squared distances of the texels from one line.
     pub fn line_distance(&self) -> Number {
         self.line
     }
 
-    /// The component of the best second plane of a block with one partition, counted from 1, or 0
-    /// if one plane ranks as well.
+    /// Returns the component of the best second plane for one partition, 1 to 4; 0 if one plane
+    /// ranks as well.
     pub fn second_plane(&self) -> u8 {
         self.plane
     }

@@ -1,24 +1,24 @@
-// The approximate distance of texels from a line.
+// The approximate squared distance of texels from their main line.
 use ideal_weights::{Number, Products, excess_bits, number, quotient};
 use std::num::Wrapping;
 
-/// How far texels lie apart, times the square of their number.
+/// Squared distances of a set of texels, times the square of their number.
 #[derive(Clone, Copy)]
 pub struct Spread {
-    /// About the squared distance from their main line: the products of two eigenvalues over the
-    /// sum of all.
+    /// Approximately the squared distance from the main line: the sum of the products of two
+    /// eigenvalues of the covariances, divided by the sum of the eigenvalues.
     pub across: Number,
-    /// The squared distance from their mean.
+    /// The squared distance from the mean.
     pub all: Number,
 }
 
-/// The spread of a block without texels.
+/// The spread of an empty set of texels.
 pub static NO_SPREAD: Spread = Spread {
     across: Wrapping(0),
     all: Wrapping(0),
 };
 
-// The sum of the squares of a matrix that has these products, shifted right.
+// The sum of the squares of all entries of the symmetric matrix with these products, shifted right.
 #[inline(always)]
 fn squares_of(products: &Products, shift: usize) -> Number {
     let mut squares = number(0);
@@ -33,7 +33,7 @@ fn squares_of(products: &Products, shift: usize) -> Number {
     squares + squares - (first * first + second * second) - (third * third + fourth * fourth)
 }
 
-/// The spread of texels with these covariances.
+/// Returns the spread of texels with these covariances.
 #[inline(always)]
 pub fn spread_of(covariances: &Products) -> Spread {
     let all = covariances[0] + covariances[2] + covariances[5] + covariances[9];

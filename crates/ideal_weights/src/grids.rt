@@ -1,18 +1,20 @@
-// Grids of weights over blocks.
+// Weight grids over blocks: an approximate inverse of the weight infill, which finds grid points
+// for given weights of texels. Numbers are integers in small units, so that eight or sixteen fit
+// into a vector.
 ghost use Rattle.std.specs.Prelude.{◌<◌, ◌≤◌};
 
 use crate::texels::Lanes;
 
-/// Numbers of the points of a grid: by column those of its rows, from the top; 0 after the last.
+/// A number for each point of a grid: by column, then by row from the top; 0 after the last row.
 pub type GridPoints = [[i16; 16]; 16];
 
-// Numbers by column, those of its rows from the top.
+// A number for each position of a block's columns: by column, then by row from the top.
 type ColumnNumbers = [[i16; 16]; 12];
 
-/// Sums of the same.
+/// A sum for each point of a grid: by column, then by row from the top.
 pub type PointSums = [[i32; 16]; 16];
 
-// The number of lanes for a row of this number of texels.
+// The number of vector lanes for a row of `N` texels.
 #[inline(always)]
 fn wide<const N: usize>() -> usize
     ensures { result ≤ 16 }
@@ -20,7 +22,7 @@ fn wide<const N: usize>() -> usize
     if N <= 8 { 8 } else { 16 }
 }
 
-// The lanes of this number of groups of eight.
+// The number of vector lanes for `EIGHTS` groups of eight.
 #[inline(always)]
 fn tall<const EIGHTS: usize>() -> usize
     ensures { result ≤ 16 }
@@ -28,28 +30,31 @@ fn tall<const EIGHTS: usize>() -> usize
     if EIGHTS <= 1 { 8 } else { 16 }
 }
 
-/// The positions of the columns, or the rows, of a block among those of a grid (Khronos Data Format
-/// Specification, ASTC, "Weight Infill").
+/// The columns (or rows) of a block relative to those of a grid: how each texel is interpolated
+/// between two points along this direction (Khronos Data Format Specification, ASTC, "Weight
+/// Infill"). The number of texels is that of a row (or column).
 #[derive(Clone, Copy)]
 pub struct GridAxis {
-    /// For each texel, the last place of the grid that is not after it.
+    /// For each texel, the last grid point that is not after the texel.
     before: [u8; 12],
-    /// The distance of the texel after that place, in sixteenths of the distance to the next place.
+    /// For each texel, its distance after that point, in sixteenths of the distance between two
+    /// points.
     beyond: [i16; 12],
-    /// By place, how many sixteenths of the texels lie at it.
+    /// For each grid point, the sum of its factors in all texels, in sixteenths.
     shares: [i32; 16],
-    /// The sums of the squares of their shares, in 1/256.
+    /// For each grid point, the sum of the squares of its factors, in 1/256.
     squares: [i32; 16],
-    /// By texel the share of its number that each place receives, in 1/4096, so that the places
-    /// give the texels nearly their numbers.
+    /// For each texel and grid point, the factor of the texel's number in the point's, in 1/4096.
+    /// With points that are computed so, the interpolation nearly gives back the numbers of the
+    /// texels.
     inverse: [[i16; 16]; 12],
-    /// By place half of the number of texels: the mean loss of a sum of as many products, each
-    /// rounded down.
+    /// For each grid point, half of the number of texels: the mean loss of a sum of as many
+    /// products that are rounded down.
     lost: [i16; 16],
 }
 
 impl GridAxis {
-    // The positions of this number of texels among this number of places.
+    // The positions of `texels` texels among `places` grid points.
     fn of(texels: usize, places: u8) -> GridAxis {
         let mut axis = GridAxis {
             before: [0; 12],
@@ -78,7 +83,7 @@ impl GridAxis {
         axis
     }
 
-    // Sets the shares of the first texels, texel by texel.
+    // Computes `inverse`, texel by texel.
     fn put_inverse(&mut self, texels: usize) {
         for texel in 0..texels.min(12) {
             let mut response = NO_RESPONSE;
@@ -110,15 +115,15 @@ impl GridAxis {
     }
 }
 
-// The unit of responses, and eight of them.
+// The number 1 in the units of responses, and 8, their limit.
 static ONE: i32 = 1 << 20;
 
 static ONE_BY_EIGHT: i32 = 1 << 23;
 
-// How often the places of a response move.
+// The number of passes in which the points of a response move.
 static INVERSE_PASSES: u32 = 8;
 
-// The share of each texel's number that each place of an axis receives.
+// The numbers of the grid points that best give 1 to a single texel and 0 to the others.
 #[derive(Clone, Copy)]
 struct Response {
     wanted: [i32; 12],
@@ -131,7 +136,7 @@ static NO_RESPONSE: Response = Response {
 };
 
 impl Response {
-    // The difference between the number that a texel should have and its present number.
+    // The number that a texel should have minus the one that the points give to it.
     fn lack(&self, axis: &GridAxis, texel: usize) -> i32
         requires { texel < 12 }
     {
@@ -142,7 +147,7 @@ impl Response {
         self.wanted[texel].wrapping_sub(from.wrapping_add(to) >> 4)
     }
 
-    // Moves places by `times` times the mean of the differences around them.
+    // Moves each point by `times` times the mean of the lacks around it.
     fn turn(&mut self, axis: &GridAxis, texels: usize, times: i32) {
         let mut sums = [0i32; 16];
         for texel in 0..texels.min(12) {
@@ -161,40 +166,44 @@ impl Response {
     }
 }
 
-/// The sums of the sensitivities of a grid's texels.
+/// The sums of the sensitivities around each point of a grid. A texel's sensitivity, 1 to 16, is
+/// how much its weight counts.
 #[derive(Clone, Copy)]
 pub struct Totals {
-    /// By point, 512 times the sum of the sensitivities, each times its texel's factor.
+    /// For each point, 32 times the sum of the sensitivities, each times the point's factor in the
+    /// texel.
     pub sums: PointSums,
-    /// By point, 2^20 over it.
+    /// For each point, 2^20 divided by `sums`.
     pub shares: PointSums,
 }
 
-/// The numbers between points and texels: by row of points, and by column of texels.
+/// Scratch memory between the two directions of an infill: numbers by row of grid points, and by
+/// column of texels.
 #[derive(Clone, Copy)]
 pub struct Interim {
     rows: GridPoints,
     columns: GridPoints,
 }
 
-/// The numbers before the first points and texels.
+/// The memory before the first infill.
 pub static NO_INTERIM: Interim = Interim {
     rows: [[0; 16]; 16],
     columns: [[0; 16]; 16],
 };
 
-/// A grid of weights over a block.
+/// A weight grid over a block.
 #[derive(Clone, Copy)]
 pub struct WeightGrid {
     pub across: u8,
     pub down: u8,
     columns: GridAxis,
     rows: GridAxis,
-    /// By point, 2^20 over the sum of the sensitivities if each texel's is 16.
+    /// For each point, 2^20 divided by its sum in `Totals` if each texel has the sensitivity 16.
     pub shares: PointSums,
 }
 
-// A projection of the rows of texels onto the columns of a grid, in 32 times the weights.
+// The weights of the rows of texels, projected onto the columns of a grid, in units of 1/32 of
+// those of the ideal weights.
 #[derive(Clone, Copy)]
 struct RowProjection {
     is_known: bool,
@@ -206,14 +215,13 @@ static NO_PROJECTION: RowProjection = RowProjection {
     columns: [[0; 16]; 12],
 };
 
-/// The weights that the texels of a plane should have, by column, and the projections of the rows
-/// of texels onto the columns of grids. A projection is computed for the first grid of a width, and
-/// kept for the others.
+/// The ideal weights of the texels of a plane, by column, and their projections onto the columns of
+/// grids. A projection is computed for the first grid of a width and kept for the others.
 #[derive(Clone, Copy)]
 pub struct PlaneTargets {
-    // 32 times each weight.
+    // The ideal weights times 32.
     texels: ColumnNumbers,
-    // By the number of a grid's columns.
+    // By the number of columns of a grid.
     projections: [RowProjection; 13],
 }
 
@@ -224,7 +232,7 @@ pub static NO_TARGETS: PlaneTargets = PlaneTargets {
 };
 
 impl PlaneTargets {
-    /// Turns to the weights of a plane, 0 to 512.
+    /// Sets the ideal weights of a plane, 0 to 512, and forgets all projections.
     pub fn turn_to<const W: usize, const H: usize>(&mut self, wanted: &Lanes) {
         for own in self.projections.iter_mut() {
             own.is_known = false;
@@ -248,8 +256,8 @@ impl PlaneTargets {
         &own.columns
     }
 
-    /// Puts in points of 0 to 1024 of a grid that give the texels nearly the weights that they
-    /// should have, each as much as the other.
+    /// Computes points of a grid, 0 to 1024, whose interpolation is close to the ideal weights. All
+    /// texels count the same.
     #[inline(always)]
     pub fn put_points<const W: usize, const H: usize, const EIGHTS: usize>(
         &mut self,
@@ -266,7 +274,7 @@ pub static NO_TOTALS: Totals = Totals {
     shares: [[0; 16]; 16],
 };
 
-// 2^20 over each number of a column, and 0 after it.
+// 2^20 divided by each of the first `count` numbers of a column, and 0 after them.
 fn put_shares(shares: &mut [i32; 16], sums: &[i32; 16], count: usize) {
     *shares = [0; 16];
     for r in 0..count.min(16) {
@@ -274,7 +282,8 @@ fn put_shares(shares: &mut [i32; 16], sums: &[i32; 16], count: usize) {
     }
 }
 
-/// Sets the points of a column to the mean of the missing weights around them.
+/// Sets the points of a column, 0 to 1024, to the weighted mean of the ideal weights around them.
+/// `lacks` has the sums of the weights, `shares` the inverse sums of the sensitivities.
 #[inline(always)]
 pub fn put_column<const EIGHTS: usize>(
     points: &mut [i16; 16],
@@ -288,8 +297,8 @@ pub fn put_column<const EIGHTS: usize>(
     }
 }
 
-/// Moves the points of a column by twice the mean of the missing weights around them, and returns 0
-/// if none moves.
+/// Moves the points of a column by twice the weighted mean of the missing weights around them.
+/// Returns 0 if no point moves.
 #[inline(always)]
 pub fn move_column<const EIGHTS: usize>(
     points: &mut [i16; 16],
@@ -307,7 +316,7 @@ pub fn move_column<const EIGHTS: usize>(
     moved
 }
 
-// A quarter of each of some sums.
+// A quarter of each sum.
 fn put_quarters(quarters: &mut [i32; 16], sums: &[i32; 16]) {
     let sums = *sums;
     for r in 0..16 {
@@ -315,14 +324,14 @@ fn put_quarters(quarters: &mut [i32; 16], sums: &[i32; 16]) {
     }
 }
 
-// 16 times the number at this number of sixteenths of the way from one to another.
+// 16 times the number that is `sixteenths` of the way from one to another.
 #[inline(always)]
 fn between(from: i16, to: i16, sixteenths: i16) -> i16 {
     let way = to.wrapping_sub(from).wrapping_mul(sixteenths);
     from.wrapping_mul(16).wrapping_add(way)
 }
 
-// The numbers between, for each number of a row.
+// The numbers of a row that are `sixteenths` of the way from one row to another, times 16.
 #[inline(always)]
 fn set_between(row: &mut [i16], from: &[i16; 16], to: &[i16; 16], sixteenths: i16) {
     let (from, to) = (*from, *to);
@@ -331,7 +340,8 @@ fn set_between(row: &mut [i16], from: &[i16; 16], to: &[i16; 16], sixteenths: i1
     }
 }
 
-// The numbers between for this number of a column.
+// The first `lanes` numbers of a column that are `sixteenths` of the way from one column to
+// another.
 #[inline(always)]
 fn put_between(column: &mut [i16; 16], ends: [&[i16; 16]; 2], sixteenths: i16, lanes: usize) {
     let (from, to) = (*ends[0], *ends[1]);
@@ -340,7 +350,7 @@ fn put_between(column: &mut [i16; 16], ends: [&[i16; 16]; 2], sixteenths: i16, l
     }
 }
 
-// Puts in the numbers of columns at one place as a row.
+// Copies entry `at` of each column to a row.
 #[inline(always)]
 fn put_across(row: &mut [i16; 16], columns: &GridPoints, at: usize, lanes: usize) {
     for x in 0..lanes.min(16) {
@@ -348,7 +358,7 @@ fn put_across(row: &mut [i16; 16], columns: &GridPoints, at: usize, lanes: usize
     }
 }
 
-// A copy of a row's numbers, so that reads of the copy do not overlap the writes.
+// A copy of a row, so that reads of the copy do not overlap the writes.
 #[inline(always)]
 fn held(row: &[i16]) -> [i16; 16] {
     let mut own = [0; 16];
@@ -358,7 +368,7 @@ fn held(row: &[i16]) -> [i16; 16] {
     own
 }
 
-// Adds to sums the upper halves of the products of numbers and a factor.
+// Adds to the sums the upper 16 bits of the products of numbers and a factor.
 #[inline(always)]
 fn add_products(sums: &mut [i16; 16], numbers: &[i16; 16], factor: i16, lanes: usize) {
     for k in 0..lanes.min(16) {
@@ -367,7 +377,7 @@ fn add_products(sums: &mut [i16; 16], numbers: &[i16; 16], factor: i16, lanes: u
     }
 }
 
-// Adds to sums a quarter of this number of sixteenths of numbers.
+// Adds to the sums the numbers times `sixteenths` / 64.
 #[inline(always)]
 fn add_shares(sums: &mut [i16; 16], numbers: &[i16; 16], sixteenths: i16, lanes: usize) {
     let factor = sixteenths.wrapping_mul(1024);
@@ -377,7 +387,7 @@ fn add_shares(sums: &mut [i16; 16], numbers: &[i16; 16], sixteenths: i16, lanes:
     }
 }
 
-// This many sixteenths of a number.
+// A number times `sixteenths` / 16.
 #[inline(always)]
 fn share_of(number: i16, sixteenths: i16) -> i32 {
     i32::from(number).wrapping_mul(i32::from(sixteenths)) >> 4
@@ -390,7 +400,7 @@ fn clear(sums: &mut [i32; 16], lanes: usize) {
     }
 }
 
-// Adds the rest after this number of sixteenths, for this number of a column's numbers.
+// Adds to the sums the first `lanes` numbers of a column times `1 - sixteenths / 16`.
 #[inline(always)]
 fn add_rests(sums: &mut [i32; 16], column: &[i16; 16], sixteenths: i16, lanes: usize) {
     for y in 0..lanes.min(16) {
@@ -399,7 +409,7 @@ fn add_rests(sums: &mut [i32; 16], column: &[i16; 16], sixteenths: i16, lanes: u
     }
 }
 
-// Adds this number of sixteenths of this number of a column's numbers.
+// Adds to the sums the first `lanes` numbers of a column times `sixteenths / 16`.
 #[inline(always)]
 fn add_sixteenths(sums: &mut [i32; 16], column: &[i16; 16], sixteenths: i16, lanes: usize) {
     for y in 0..lanes.min(16) {
@@ -408,7 +418,8 @@ fn add_sixteenths(sums: &mut [i32; 16], column: &[i16; 16], sixteenths: i16, lan
 }
 
 impl WeightGrid {
-    /// A grid of this number of columns and rows of points, 2 to 12 each, over a block.
+    /// Returns a grid of `across` columns and `down` rows of points, 2 to 12 each, over a block of
+    /// `W` by `H` texels.
     pub fn of<const W: usize, const H: usize>(across: u8, down: u8) -> WeightGrid {
         let mut grid = WeightGrid {
             across,
@@ -425,7 +436,7 @@ impl WeightGrid {
         grid
     }
 
-    /// How many columns of points there are.
+    /// Returns the number of columns of points, at most 12.
     #[inline]
     pub fn width(&self) -> usize
         ensures { result ≤ 12 }
@@ -447,7 +458,7 @@ impl WeightGrid {
         H <= 8 || self.down <= 8
     }
 
-    // Sets the sums of the sensitivities of a column if each texel's is 16.
+    // Computes the sums of the sensitivities of a column of points if each texel has 16.
     fn put_even(&self, sums: &mut [i32; 16], column: usize) {
         let own = self.columns.shares[column & 15].wrapping_mul(2);
         for r in 0..16 {
@@ -455,9 +466,9 @@ impl WeightGrid {
         }
     }
 
-    /// Sets the weight of the squared deviations of a column's points: the sums of the squares of
-    /// the texels' factors, in 1/256, reduced as the texels around a point count less; 0 after the
-    /// last row.
+    /// Computes how much the squared deviation of each point of a column counts: the sum of the
+    /// squares of its factors, in 1/256, reduced if the texels around the point have low
+    /// sensitivities; 0 after the last row.
     #[inline(always)]
     pub fn put_gains(&self, gains: &mut [i32; 16], column: usize, own: Option<&Totals>) {
         let squares = self.columns.squares[column & 15];
@@ -473,7 +484,7 @@ impl WeightGrid {
         }
     }
 
-    /// Sets the sums of the sensitivities that were gathered.
+    /// Sets the sums of the sensitivities from the gathered ones.
     pub fn put_totals(&self, totals: &mut Totals, gathered: &PointSums) {
         for c in 0..self.width() {
             put_quarters(&mut totals.sums[c], &gathered[c]);
@@ -481,7 +492,7 @@ impl WeightGrid {
         }
     }
 
-    // Sets the projection of the rows of texels onto the columns of points.
+    // Computes the projection of the rows of texels onto the columns of points.
     #[inline(always)]
     fn put_projection<const W: usize, const H: usize>(
         &self,
@@ -498,7 +509,7 @@ impl WeightGrid {
         }
     }
 
-    // Sets points of 0 to 1024 by the projection of the columns of texels onto the rows of points.
+    // Computes points, 0 to 1024, by a projection of the columns of texels onto the rows of points.
     #[inline(always)]
     fn put_points<const H: usize, const EIGHTS: usize>(
         &self,
@@ -518,7 +529,8 @@ impl WeightGrid {
         }
     }
 
-    // Puts in what points of 0 to 1024 give the columns of a block.
+    // Interpolates between columns of points: computes a number for each column of texels and row
+    // of points.
     #[inline(always)]
     fn put_columns<const W: usize, const EIGHTS: usize>(
         &self,
@@ -538,7 +550,7 @@ impl WeightGrid {
         }
     }
 
-    // Puts in by row of points what columns have.
+    // Transposes columns to rows of points.
     #[inline(always)]
     fn put_rows<const W: usize>(&self, rows: &mut GridPoints, columns: &GridPoints) {
         for at in 0..self.height() {
@@ -546,8 +558,9 @@ impl WeightGrid {
         }
     }
 
-    /// Sets 16 times the number that points of 0 to 1024 give to each texel, if their rows fill
-    /// this number of groups of eight. The entries after the last texel are free.
+    /// Computes 16 times the number that the points, 0 to 1024, give to each texel. `EIGHTS` is the
+    /// number of groups of eight that hold a column of points. The entries after the last texel
+    /// have no meaning.
     #[inline(always)]
     pub fn infill<const W: usize, const H: usize, const EIGHTS: usize>(
         &self,
@@ -568,7 +581,7 @@ impl WeightGrid {
         }
     }
 
-    // Adds to sums by row of points a quarter of what the texels' numbers give it.
+    // Adds the numbers of the texels, times their factors / 4, to the sums of the rows of points.
     #[inline(always)]
     fn add_rows<const W: usize, const H: usize>(
         &self,
@@ -592,7 +605,7 @@ impl WeightGrid {
         }
     }
 
-    // Adds what each column's numbers give its points.
+    // Adds the numbers of the columns of texels, times their factors, to the sums of the points.
     #[inline(always)]
     fn add_columns<const W: usize, const EIGHTS: usize>(
         &self,
@@ -610,8 +623,8 @@ impl WeightGrid {
         }
     }
 
-    /// Puts in by point a quarter of the sum of the texels' numbers, of at most 8192, each times
-    /// its factor from 0 to 1.
+    /// Computes for each point a quarter of the sum of the texels' numbers (at most 8192), each
+    /// times the point's factor in the texel, 0 to 1.
     #[inline(always)]
     pub fn gather<const W: usize, const H: usize, const EIGHTS: usize>(
         &self,

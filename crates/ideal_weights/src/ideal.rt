@@ -1,4 +1,5 @@
-// The ideal weights of the blocks of a layout: those along the main line of each part.
+// The ideal weights of a layout (the partitions and planes of a block): the positions of the texels
+// along the main line of each partition, the line with the least squared distances.
 ghost use Rattle.std.specs.Prelude.{◌<◌};
 
 use crate::layouts::{BlockLayout, WHOLE};
@@ -8,37 +9,37 @@ use crate::statistics::{Products, products_of, row_of, statistics_of};
 use crate::texels::{Lanes, Texels, lanes};
 use std::num::Wrapping;
 
-/// The weights that a layout's blocks should have.
+/// The ideal weights of a layout.
 #[derive(Clone, Copy)]
 pub struct Wants {
-    /// By plane and place the weight, 0 to 512.
+    /// For each plane and place the ideal weight, 0 to 512; 512 stands for a weight of 64.
     pub weights: [Lanes; 2],
-    /// By plane and part the squared length of the line, if each channel counts as often as its
-    /// gain.
+    /// For each plane and partition the squared length of the line between the extreme texels, each
+    /// channel with its weight.
     pub lengths: [[Number; 4]; 2],
 }
 
-/// The ideal weights of a layout's blocks.
+/// The ideal weights of a layout, with the masks of its partitions.
 #[derive(Clone, Copy)]
 pub struct IdealWeights {
     pub layout: BlockLayout,
-    /// By partition -1 at its inside places, 0 elsewhere; stale for a partition that the layout
-    /// lacks.
+    /// For each partition -1 at its inside places, 0 elsewhere; stale for partitions that the
+    /// layout does not have.
     pub masks: [Lanes; 4],
     pub wants: Wants,
-    // The part of each place, if there are several.
+    // The partition of each place, if there are several partitions.
     parts: [u8; 144],
-    // The position of each place along the last line.
+    // The position of each place along the line of the last partition.
     along: Places,
 }
 
-// A number by channel.
+// A number for each channel.
 type ByChannel = [Number; 4];
 
-// A direction by channel, -1024 to 1024.
+// A direction by channel, each -1024 to 1024.
 type Direction = [i16; 4];
 
-// The channels that count and take their weights from a plane.
+// The channels with a weight over 0 that belong to a plane.
 fn keeps_of(layout: BlockLayout, plane: usize, gains: &ByChannel) -> [bool; 4] {
     let mut keeps = [false; 4];
     for c in 0..4 {
@@ -47,7 +48,7 @@ fn keeps_of(layout: BlockLayout, plane: usize, gains: &ByChannel) -> [bool; 4] {
     keeps
 }
 
-// The covariances with the channel that varies most; 0 if none does.
+// The covariances of all channels with the channel that varies most; 0 if no channel varies.
 fn main_row(covariances: &Products, gains: &ByChannel) -> ByChannel {
     let mut most = number(0);
     let mut row = [number(0); 4];
@@ -74,7 +75,8 @@ fn product_of(first: &ByChannel, second: &ByChannel) -> Number {
     first[0] * second[0] + first[1] * second[1] + first[2] * second[2] + first[3] * second[3]
 }
 
-// A row turned a step towards the main line: 14 bits of it times the covariances.
+// A row after one step of power iteration towards the main direction: the covariances times the
+// row, which is cut to 14 bits.
 fn turned(covariances: &Products, row: &ByChannel) -> ByChannel {
     let shift = excess(row, 14);
     let short = [
@@ -91,7 +93,7 @@ fn turned(covariances: &Products, row: &ByChannel) -> ByChannel {
     ]
 }
 
-// The row as numbers of ten bits that do not point to black.
+// The row cut to numbers of ten bits, with a sign so that red, green and blue do not fall in total.
 fn direction(row: &ByChannel) -> Direction {
     let shift = excess(row, 10);
     let down = (row[0] + row[1] + row[2]).0 < 0;
@@ -103,8 +105,8 @@ fn direction(row: &ByChannel) -> Direction {
     along
 }
 
-// The line closest to some texels: the row of the channel that varies most, after three steps
-// towards the main line.
+// The direction of the main line of a set of texels: that of the channel that varies most, after
+// three steps of power iteration.
 fn line_of(covariances: &Products, gains: &ByChannel) -> Direction {
     let mut row = main_row(covariances, gains);
     for _ in 0..3u8 {
@@ -113,10 +115,10 @@ fn line_of(covariances: &Products, gains: &ByChannel) -> Direction {
     direction(&row)
 }
 
-// A number of each place along a line.
+// The position of each place along a line.
 type Places = [i32; 144];
 
-// The least and the greatest place of texels along a line.
+// The least and the greatest position of a set of texels along a line.
 #[derive(Clone, Copy)]
 struct Extremes {
     least: i32,
@@ -136,7 +138,7 @@ fn place_of(line: &Direction, channels: &[Lanes; 4], p: usize) -> i32
         .wrapping_add(alpha)
 }
 
-// Puts in the places of all texels, and gives the ends of those of a mask.
+// Computes the positions of all texels, and returns the extremes of those in the mask.
 fn put_places<const W: usize, const H: usize>(
     places: &mut Places,
     line: &Direction,
@@ -157,7 +159,7 @@ fn put_places<const W: usize, const H: usize>(
     ends
 }
 
-// Puts in the weights of the places of a mask, 512 for the greatest.
+// Sets the ideal weights of the places of a mask: 0 at the least position, 512 at the greatest.
 fn put_wanted<const W: usize, const H: usize>(
     wanted: &mut Lanes,
     places: &Places,
@@ -173,7 +175,7 @@ fn put_wanted<const W: usize, const H: usize>(
     }
 }
 
-// Puts in -1 at the places of a part inside the image.
+// Sets the mask of a partition: -1 at its inside places, else 0.
 fn put_mask<const W: usize, const H: usize>(
     mask: &mut Lanes,
     parts: &[u8; 144],
@@ -185,8 +187,8 @@ fn put_mask<const W: usize, const H: usize>(
     }
 }
 
-// The squared length between the ends, if each channel counts as often as its gain: the ends are
-// apart by the share of the direction that the places span.
+// The squared length of the line between the extremes, each channel with its weight. The direction
+// is scaled by the distance of the extremes along it.
 fn length_of(line: &Direction, ends: Extremes, gains: &ByChannel) -> Number {
     let mut own = number(0);
     let mut counted = number(0);
@@ -199,14 +201,14 @@ fn length_of(line: &Direction, ends: Extremes, gains: &ByChannel) -> Number {
     quotient(quotient(span * span, own) * counted, own)
 }
 
-/// No ideal weights.
+/// The value without a layout.
 pub static NO_WANTS: Wants = Wants {
     weights: [[0; 160]; 2],
     lengths: [[Wrapping(0); 4]; 2],
 };
 
 impl Wants {
-    // Clears the ideal weights of the first planes.
+    // Clears the ideal weights of the first `planes` planes.
     fn forget<const W: usize, const H: usize>(&mut self, planes: usize) {
         self.lengths = [[number(0); 4]; 2];
         for own in self.weights.iter_mut().take(planes) {
@@ -217,7 +219,7 @@ impl Wants {
     }
 }
 
-/// The weights before the first source.
+/// The value before the first source.
 pub static NO_IDEAL_WEIGHTS: IdealWeights = IdealWeights {
     layout: WHOLE,
     masks: [[0; 160]; 4],
@@ -227,7 +229,7 @@ pub static NO_IDEAL_WEIGHTS: IdealWeights = IdealWeights {
 };
 
 impl IdealWeights {
-    // The line of a part with the channels of a plane.
+    // Computes the ideal weights of a partition in one plane.
     fn put_plane<const W: usize, const H: usize>(
         &mut self,
         texels: &Texels,
@@ -246,7 +248,7 @@ impl IdealWeights {
         }
     }
 
-    // The lines of a part whose places are known.
+    // Computes the ideal weights of a partition in all planes; its mask is set.
     fn put_part<const W: usize, const H: usize>(&mut self, texels: &Texels, part: usize) {
         let statistics = statistics_of::<W, H>(texels, &self.masks[part & 3]);
         let covariances = statistics.covariances();
@@ -256,7 +258,7 @@ impl IdealWeights {
         }
     }
 
-    // The places of each part.
+    // Sets the masks of the partitions.
     fn put_masks<const W: usize, const H: usize>(&mut self, texels: &Texels) {
         let BlockLayout { parts, seed, .. } = self.layout;
         if parts < 2 {
@@ -270,7 +272,7 @@ impl IdealWeights {
         }
     }
 
-    /// Turns to the blocks of a layout: weights along the main line of each part.
+    /// Computes the ideal weights of a layout, along the main line of each partition.
     #[inline(never)]
     pub fn turn_to<const W: usize, const H: usize>(
         &mut self,

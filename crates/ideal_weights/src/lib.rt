@@ -1,6 +1,7 @@
-//! The basis of a fit: the texels of a block as lanes, the line of each partition with ideal
-//! weights along it, and the points of a grid that come close to these weights. Sums wrap. No
-//! clause states the quality of the results, which is measured.
+//! The basis of a fit, which makes a block for a source by least squares instead of trying recipes:
+//! the texels of a source in arrays, the main line of each partition with the ideal weights along
+//! it, and the grid points that come closest to these weights. Arithmetic wraps. The quality of the
+//! results is measured, not proved.
 #![tactic(auto)]
 
 mod grids;

@@ -1,35 +1,35 @@
-// Whole numbers whose operators wrap: no clause speaks of a fit's sums, so that one too large would
-// cost quality alone.
+// Integers with wrapping operators. Contracts do not mention the sums of a fit, so an overflow
+// could only reduce the quality of its result.
 use std::num::Wrapping;
 
-/// A sum of a fit.
+/// A sum of a fit, which wraps.
 pub type Number = Wrapping<i64>;
 
-/// More than any sum that is looked for.
+/// A number above all errors and ranks.
 pub static MOST: Number = Wrapping(i64::MAX);
 
-/// A plain number as one.
+/// Converts a plain number.
 pub fn number(value: i64) -> Number {
     Wrapping(value)
 }
 
-/// The quotient towards 0; 0 for a divisor of 0.
+/// Returns a / b, rounded towards 0; 0 if b is 0.
 pub fn quotient(a: Number, b: Number) -> Number {
     Wrapping(a.0.checked_div(b.0).unwrap_or(0))
 }
 
-/// The closest whole number to a quotient whose divisor is over 0; 0 for a divisor of 0.
+/// Returns a / b, rounded to the closest integer, for b over 0; 0 if b is 0.
 pub fn nearest_quotient(a: Number, b: Number) -> Number {
     let twice = a + a + b;
     Wrapping(twice.0.checked_div_euclid((b + b).0).unwrap_or(0))
 }
 
-/// The number within 0 to 255.
+/// Returns the number clamped to 0 to 255.
 pub fn byte(value: Number) -> u8 {
     value.0.clamp(0, 255) as u8
 }
 
-/// The number of bits by which a number is to be shifted right to have at most this number of bits.
+/// Returns by how many bits the number has to be shifted right so that it has at most `bits` bits.
 pub fn excess_bits(value: Number, bits: u32) -> usize {
     let has = 64 - value.0.unsigned_abs().leading_zeros();
     has.saturating_sub(bits) as usize

@@ -1,12 +1,12 @@
-// The parts of texels, many at once.
+// The partitions of all texels of a block, several at a time.
 ghost use Rattle.std.specs.Prelude.{◌≤◌};
 
 use crate::texels::places;
 use partition_hash::hash52;
 
-// The numbers that give the partitions of a seed (Khronos Data Format Specification, ASTC,
-// "Partition Pattern Generation"): each partition has a score that is linear in the column and the
-// row, modulo 64; a texel belongs to the first partition with the greatest.
+// The scores of the partitions under one seed (Khronos Data Format Specification, ASTC, "Partition
+// Pattern Generation"). The score of a partition is linear in the column and the row, modulo 64; a
+// texel belongs to the first partition with the greatest score.
 #[derive(Clone, Copy)]
 struct PartitionSlopes {
     by_column: [u16; 4],
@@ -14,7 +14,7 @@ struct PartitionSlopes {
     first: [u16; 4],
 }
 
-// The square of the four bits of the hash from bit 4`k`, shifted right.
+// The square of nibble `k` of the hash, shifted right.
 fn slope(hash: u32, k: u32, shift: u32) -> u32 {
     let nibble = hash.wrapping_shr(k.wrapping_mul(4)) & 15;
     nibble.wrapping_mul(nibble).wrapping_shr(shift)
@@ -37,7 +37,7 @@ fn short(score: u32) -> u16 {
 }
 
 impl PartitionSlopes {
-    // The pattern of a seed in blocks of this number of places.
+    // The scores for a seed, in blocks with `places` texels.
     fn of(parts: u8, seed: u16, places: usize) -> PartitionSlopes {
         let number = u32::from(seed).wrapping_add(
             u32::from(parts).wrapping_sub(1).wrapping_mul(1024),
@@ -62,7 +62,8 @@ impl PartitionSlopes {
         pattern
     }
 
-    // A missing partition has a score of 0, which no other score is below.
+    // The score of a partition at a texel, 0 to 63. A missing partition has 0, so that it never has
+    // the greatest score before an existing one.
     #[inline(always)]
     fn score(&self, part: u8, column: u16, row: u16) -> u16 {
         let place = usize::from(part & 3);
@@ -71,8 +72,8 @@ impl PartitionSlopes {
         across.wrapping_add(down).wrapping_add(self.first[place]) & 63
     }
 
-    // The part of the texel in a column and a row; without a branch, so that several are found at
-    // once.
+    // The partition of the texel in a column and a row. There are no branches, so that the compiler
+    // computes several texels at once.
     #[inline(always)]
     fn part(&self, column: u16, row: u16) -> u16
         ensures { result ≤ 3 }
@@ -92,14 +93,14 @@ impl PartitionSlopes {
     }
 }
 
-// A number from 1 to 144 for what divides.
+// The side as a divisor, 1 to 144.
 fn side<const N: usize>() -> u16
     ensures { 1 ≤ result }
 {
     N.clamp(1, 144) as u16
 }
 
-/// Puts in the part of each place of a block, in rows from the top.
+/// Sets the partition of each place of a block, in rows from the top.
 #[inline(never)]
 pub fn put_parts<const W: usize, const H: usize>(map: &mut [u8; 144], parts: u8, seed: u16) {
     let pattern = PartitionSlopes::of(parts, seed, W.wrapping_mul(H));

@@ -1,4 +1,4 @@
-// Points of a grid for the weights that a plane's texels should have.
+// Computes the grid points whose interpolation is closest to the ideal weights of a plane.
 use crate::grids::{
     GridPoints, Interim, NO_INTERIM, NO_TARGETS, NO_TOTALS, PlaneTargets, PointSums, Totals,
     WeightGrid, move_column, put_column,
@@ -7,8 +7,9 @@ use crate::ideal::IdealWeights;
 use crate::numbers::{Number, number, quotient};
 use crate::texels::{Lanes, Texels, eight, eights, lanes};
 
-/// Puts in how much each texel's weight counts in a plane, 1 to 16, by the length of its part's
-/// line; 0 outside.
+/// Sets the sensitivity of each texel, 1 to 16: how much its weight counts in a plane. Texels of
+/// the partition with the longest line have the greatest sensitivity; places outside the image have
+/// 0.
 pub fn put_sensitivities<const W: usize, const H: usize>(
     sensitivities: &mut Lanes,
     ideal: &IdealWeights,
@@ -22,14 +23,14 @@ pub fn put_sensitivities<const W: usize, const H: usize>(
     }
 }
 
-// Puts in a number at the places of a mask, and 0 elsewhere.
+// Sets a number at the places of a mask, and 0 elsewhere.
 fn put_counted<const W: usize, const H: usize>(numbers: &mut Lanes, mask: &Lanes, own: i16) {
     for p in 0..lanes::<W, H>() {
         numbers[p] = mask[p] & own;
     }
 }
 
-// Puts in a number at the places of a mask, which have 0 before.
+// Sets a number at the places of a mask, which have 0 before.
 fn add_counted<const W: usize, const H: usize>(numbers: &mut Lanes, mask: &Lanes, own: i16) {
     for p in 0..lanes::<W, H>() {
         numbers[p] |= mask[p] & own;
@@ -48,29 +49,29 @@ fn sensitivities_by_part(parts: u8, lengths: &[Number; 4]) -> [i16; 4] {
     sensitivities
 }
 
-/// The greatest of the lengths.
+/// Returns the greatest of four squared lengths.
 pub fn greatest_of(lengths: &[Number; 4]) -> Number {
     lengths[0].max(lengths[1]).max(lengths[2].max(lengths[3]))
 }
 
-// How often points are moved after they were placed as if all texels counted the same, if they do
-// not. In few texels the second plane or the parts win nothing by it.
+// The number of passes that move points whose first positions count all texels the same although
+// they do not. In small blocks such passes gain nothing.
 #[inline(always)]
 fn uneven_passes<const W: usize, const H: usize>() -> u32 {
     if W.wrapping_mul(H) <= 25 { 0 } else { 1 }
 }
 
-/// The target weights of points.
+/// The ideal weights of the texels, which the points of a grid should give.
 #[derive(Clone, Copy)]
 pub struct TargetWeights<'a> {
-    /// The weight that each texel should have, 0 to 512.
+    /// The ideal weight of each texel, 0 to 512.
     wanted: &'a Lanes,
-    /// How much it counts.
+    /// The sensitivity of each texel, 0 to 16.
     sensitivities: &'a Lanes,
 }
 
 impl<'a> TargetWeights<'a> {
-    /// By texel the weights, and how much each counts.
+    /// Returns the targets with these ideal weights and sensitivities.
     pub fn new(wanted: &'a Lanes, sensitivities: &'a Lanes) -> TargetWeights<'a> {
         TargetWeights {
             wanted,
@@ -78,7 +79,8 @@ impl<'a> TargetWeights<'a> {
         }
     }
 
-    // Sets the missing weight of each texel, as much as it counts, if it has none yet.
+    // Sets for each texel its ideal weight times its sensitivity: all of it is missing before there
+    // are points.
     #[inline(always)]
     fn put_wants<const W: usize, const H: usize>(&self, lacks: &mut Lanes) {
         for group in 0..eights::<W, H>() {
@@ -89,7 +91,7 @@ impl<'a> TargetWeights<'a> {
         }
     }
 
-    // Puts in what each texel still lacks, as much as it counts.
+    // Sets for each texel the missing weight (ideal minus interpolated) times its sensitivity.
     #[inline(always)]
     fn put_lacks<const W: usize, const H: usize>(&self, lacks: &mut Lanes, numbers: &Lanes) {
         let (wanted, sensitivities) = (self.wanted, self.sensitivities);
@@ -101,13 +103,13 @@ impl<'a> TargetWeights<'a> {
     }
 }
 
-/// Points of 0 to 1024, and 16 times the numbers that they give to the texels, with the memory to
-/// compute them: it is passed on from grid to grid, so that none of it is made again.
+/// The points of a grid, 0 to 1024, and 16 times the numbers that they give to the texels, with
+/// scratch memory. One value is reused from grid to grid, so that no memory is cleared.
 #[derive(Clone, Copy)]
 pub struct Placing {
     pub points: GridPoints,
     pub numbers: Lanes,
-    // By plane the weights that its texels should have.
+    // The ideal weights of each plane.
     planes: [PlaneTargets; 2],
     // The missing weights of texels, and their sums by point.
     lacks: Lanes,
@@ -133,12 +135,12 @@ pub static NO_PLACING: Placing = Placing {
 };
 
 impl Placing {
-    /// Turns to the weights that the texels of a plane should have, 0 to 512, for the next grids.
+    /// Sets the ideal weights of a plane, 0 to 512, for the next grids.
     pub fn turn_to<const W: usize, const H: usize>(&mut self, plane: usize, wanted: &Lanes) {
         self.planes[plane & 1].turn_to::<W, H>(wanted);
     }
 
-    /// Takes the weights of the texels of a grid in blocks of this number of partitions.
+    /// Sets the sensitivities of the texels under a grid, for blocks with `parts` partitions.
     pub fn take<const W: usize, const H: usize>(
         &mut self,
         grid: &WeightGrid,
@@ -161,7 +163,7 @@ impl Placing {
         }
     }
 
-    /// The sums of the last sensitivities; None if each texel's is 16.
+    /// Returns the sums of the sensitivities that were set last; None if each texel has 16.
     pub fn totals(&self) -> Option<&Totals> {
         if self.is_uneven {
             Some(&self.totals)
@@ -170,21 +172,21 @@ impl Placing {
         }
     }
 
-    // Sums what texels lack by point.
+    // Sums up the missing weights by point.
     #[inline(always)]
     fn gather<const W: usize, const H: usize, const EIGHTS: usize>(&mut self, grid: &WeightGrid) {
         let interim = &mut self.interim;
         grid.gather::<W, H, EIGHTS>(&mut self.sums, &self.lacks, interim);
     }
 
-    // Finds the numbers that points give the texels.
+    // Computes the numbers that the points give to the texels.
     #[inline(always)]
     fn infill<const W: usize, const H: usize, const EIGHTS: usize>(&mut self, grid: &WeightGrid) {
         let interim = &mut self.interim;
         grid.infill::<W, H, EIGHTS>(&mut self.numbers, &self.points, interim);
     }
 
-    // Moves points to the mean of the ideal weights around them.
+    // Sets the points to the weighted mean of the ideal weights around them.
     #[inline(always)]
     fn put_points<const EIGHTS: usize>(&mut self, grid: &WeightGrid) {
         for c in 0..grid.width() {
@@ -194,8 +196,8 @@ impl Placing {
         }
     }
 
-    // Moves points by twice the mean of the missing weights around them, and returns whether one
-    // moves.
+    // Moves the points by twice the weighted mean of the missing weights around them. Returns
+    // whether any point moves.
     #[inline(always)]
     fn move_points<const EIGHTS: usize>(&mut self, grid: &WeightGrid) -> bool {
         let mut moved = 0;
@@ -207,7 +209,8 @@ impl Placing {
         moved != 0
     }
 
-    // Places points, whose rows fill this number of groups of eight.
+    // Computes the points for a plane. `EIGHTS` is the number of groups of eight that hold a column
+    // of points.
     #[inline(always)]
     fn place_in<const W: usize, const H: usize, const EIGHTS: usize>(
         &mut self,
@@ -240,8 +243,8 @@ impl Placing {
         }
     }
 
-    /// Places points that give the texels almost the weights that a plane turned to, after this
-    /// number of passes at most: a pass that moves no point is the last.
+    /// Computes points whose interpolation is close to the ideal weights of a plane, in at most
+    /// `passes` passes; a pass that moves no point is the last.
     #[inline(always)]
     pub fn place<const W: usize, const H: usize>(
         &mut self,
@@ -257,7 +260,7 @@ impl Placing {
         }
     }
 
-    /// Finds the numbers that the points give the texels.
+    /// Computes the numbers that the points give to the texels.
     #[inline(always)]
     pub fn show<const W: usize, const H: usize>(&mut self, grid: &WeightGrid) {
         if grid.is_low::<H>() {

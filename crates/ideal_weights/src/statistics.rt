@@ -1,12 +1,12 @@
-// Sums over the texels of a part.
+// Sums over the texels of a partition.
 use crate::numbers::{Number, number};
 use crate::texels::{Lanes, Texels, lanes};
 
-/// The products of two of four channels: red and red, green and red, green and green, blue and red
-/// and so on.
+/// The products of the pairs of four channels, in the order rr, gr, gg, br, bg, bb, ar, ag, ab, aa.
 pub type Products = [Number; 10];
 
-/// The number of some texels, the sums of their channels and of products of channels.
+/// The number of texels of a set, the sums of their channels, and the sums of the products of two
+/// channels.
 #[derive(Clone, Copy)]
 pub struct Statistics {
     pub count: Number,
@@ -28,7 +28,7 @@ static PAIRS: [(usize, usize); 10] = [
     (3, 3),
 ];
 
-/// The sum over the places of a mask.
+/// Returns the sum of the values at the places of a mask.
 #[inline(always)]
 pub fn total<const W: usize, const H: usize>(values: &Lanes, mask: &Lanes) -> Number {
     let mut sum = 0i32;
@@ -38,7 +38,7 @@ pub fn total<const W: usize, const H: usize>(values: &Lanes, mask: &Lanes) -> Nu
     number(i64::from(sum))
 }
 
-/// The sum of products over the places of a mask.
+/// Returns the sum of the products of two values at the places of a mask.
 #[inline(always)]
 pub fn dot<const W: usize, const H: usize>(first: &Lanes, second: &Lanes, mask: &Lanes) -> Number {
     let mut sum = 0i32;
@@ -66,7 +66,7 @@ fn sums_of<const W: usize, const H: usize>(
     ]
 }
 
-/// The statistics of the texels at the places of a mask.
+/// Returns the statistics of the texels at the places of a mask.
 #[inline(never)]
 pub fn statistics_of<const W: usize, const H: usize>(texels: &Texels, mask: &Lanes) -> Statistics {
     let count = number(0) - total::<W, H>(mask, mask);
@@ -88,7 +88,7 @@ pub fn statistics_of<const W: usize, const H: usize>(texels: &Texels, mask: &Lan
 }
 
 impl Statistics {
-    /// The covariances of channels, times the square of the number of texels.
+    /// Returns the covariances of the channels, times the square of the number of texels.
     pub fn covariances(&self) -> Products {
         let mut covariances = [number(0); 10];
         for k in 0..10 {
@@ -99,7 +99,7 @@ impl Statistics {
     }
 }
 
-/// `products` without some channels: 0 replaces each product with one of them.
+/// Returns the products with 0 for each that has a channel which `keeps` excludes.
 pub fn products_of(products: &Products, keeps: &[bool; 4]) -> Products {
     let mut kept = [number(0); 10];
     for k in 0..10 {
@@ -111,7 +111,7 @@ pub fn products_of(products: &Products, keeps: &[bool; 4]) -> Products {
     kept
 }
 
-/// The products with a channel, by the other one.
+/// Returns the products of `channel` with each of the four channels.
 pub fn row_of(products: &Products, channel: usize) -> [Number; 4] {
     match channel {
         0 => [products[0], products[1], products[3], products[6]],

@@ -1,33 +1,34 @@
-// The texels of a source as lanes.
+// The texels of a source in arrays for vector loops.
 ghost use Rattle.std.specs.Prelude.{◌<◌, ◌≤◌};
 
 use crate::numbers::{Number, number};
 use astc_model::{ChannelWeights, Flavour, Source};
 use std::num::Wrapping;
 
-/// A number for each place of a block, in rows from the top, with room for sixteen from each row
-/// on; 0 after the last.
+/// A number for each place of a block, in rows from the top; 0 after the last place. From the start
+/// of each row there are sixteen entries, so that a vector load stays in the array.
 pub type Lanes = [i16; 160];
 
-/// The texels of a source as a fit counts them.
+/// The texels of a source by channel.
 #[derive(Clone, Copy)]
 pub struct Texels {
-    /// By channel the value of each place, 0 to 255; 0 outside the image.
+    /// For each channel the value of each place, 0 to 255; 0 outside the image.
     pub channels: [Lanes; 4],
     /// -1 at each place inside the image, 0 elsewhere.
     pub inside: Lanes,
-    /// The number of places inside.
+    /// The number of places inside the image.
     pub count: usize,
-    /// How often each channel counts, 0 to 15.
+    /// The weight of each channel, 0 to 15.
     pub gains: [Number; 4],
     pub srgb: bool,
-    /// Alpha is 255 at each place inside.
+    /// Whether alpha is 255 at each inside place.
     pub opaque: bool,
-    /// Each place of the block is inside.
+    /// Whether all places of the block are inside the image.
     pub whole: bool,
 }
 
-/// How many lanes of a block are looked at: its places, up to a multiple of eight.
+/// Returns the number of lanes that loops process: the places of a block, rounded up to a multiple
+/// of eight.
 #[inline(always)]
 pub fn lanes<const W: usize, const H: usize>() -> usize
     ensures { result ≤ 144 }
@@ -36,7 +37,7 @@ pub fn lanes<const W: usize, const H: usize>() -> usize
     eights.wrapping_mul(8).min(144)
 }
 
-/// How many groups of eight lanes are looked at.
+/// Returns the number of groups of eight lanes that loops process.
 #[inline(always)]
 pub fn eights<const W: usize, const H: usize>() -> usize
     ensures { result ≤ 18 }
@@ -44,7 +45,8 @@ pub fn eights<const W: usize, const H: usize>() -> usize
     lanes::<W, H>() / 8
 }
 
-/// The lanes of a group of eight, by value: a loop over them is a vector loop, whatever it writes.
+/// Returns a group of eight lanes by value, so that the compiler can turn a loop over them into
+/// vector code without regard to writes.
 #[inline(always)]
 pub fn eight(lanes: &Lanes, group: usize) -> [i16; 8]
     requires { group < 18 }
@@ -56,7 +58,7 @@ pub fn eight(lanes: &Lanes, group: usize) -> [i16; 8]
     own
 }
 
-/// The number of a block's places.
+/// Returns the number of places of a block.
 #[inline(always)]
 pub fn places<const W: usize, const H: usize>() -> usize
     ensures { result ≤ 144 }
@@ -73,7 +75,7 @@ fn gains_of(weights: [u8; 4]) -> [Number; 4] {
     ]
 }
 
-// Puts 0 at each place.
+// Sets all places to 0.
 fn clear<const W: usize, const H: usize>(numbers: &mut Lanes) {
     for p in 0..lanes::<W, H>() {
         numbers[p] = 0;
@@ -114,7 +116,7 @@ impl Texels {
         self.whole = true;
     }
 
-    /// Takes the texels of a source inside the image.
+    /// Sets the texels, the flavour and the channel weights from a source.
     pub fn take<const W: usize, const H: usize>(
         &mut self,
         flavour: Flavour,

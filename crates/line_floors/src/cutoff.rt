@@ -49,7 +49,8 @@ fn root_above(n: u64) -> u64
 }
 
 impl Cutoff {
-    /// The cutoff of a limit, with this sum of the weights of texels and channels.
+    /// Returns the cutoff of a limit, where `weight` is the sum of the channel weights over all
+    /// texels.
     pub fn of(weight: u64, limit: u32) -> Cutoff
         requires { weight ≤ 34560 }
         ensures weight { result.weight ≡ weight }

@@ -251,7 +251,7 @@ fn remaining(length: u64, first: u64, saved: u128) -> u64
 }
 
 impl Slopes {
-    // The rises from one colour to another.
+    // The slopes for the line from one endpoint to another.
     #[inline(always)]
     fn of(gains: &[u64; 4], from: &[u8; 4], to: &[u8; 4]) -> Slopes
         requires gains { All (λ gain. gain ≤ 15) gains.now }

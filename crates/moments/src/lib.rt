@@ -16,9 +16,9 @@ pub enum Widening {
 }
 
 /// The sums over a set of texels in one channel that give a lower bound on the error for any two
-/// endpoints. With the weights 64 - w of the first and w of the second endpoint and the wanted
-/// blend t of each texel, they are the sums of (64 - w)^2, (64 - w) * w, w^2, (64 - w) * t, w * t
-/// and t^2.
+/// endpoints. With the weights 64 - w of the first and w of the second endpoint, and the blend t
+/// that decodes to the texel of the source, they are the sums of (64 - w)^2, (64 - w) * w, w^2, (64
+/// - w) * t, w * t and t^2.
 #[derive(Clone, Copy)]
 pub struct Moments {
     pub first_squares: u64,

@@ -1,4 +1,4 @@
-//! Fitted blocks of small sources.
+//! Blocks that are fitted to small sources.
 ghost use Rattle.std.specs.Prelude.{IsTrue};
 ghost use Rattle.astc_model.specs.Footprints.{is_footprint};
 
@@ -11,7 +11,8 @@ use descent::fit_scratch;
 use std::process::Abort;
 use texel_error::{Goal, error_of};
 
-// A source whose red and green rise to the right and whose blue rises downwards.
+// A source in which red and green rise to the right and blue rises downwards, in the first 4 by 4
+// places.
 fn slopes<const W: usize, const H: usize>() -> Source<W, H>
     requires { IsTrue (is_footprint W H) }
 {
@@ -24,7 +25,8 @@ fn slopes<const W: usize, const H: usize>() -> Source<W, H>
     source
 }
 
-// Fits a source under a preset; whether each block is legal, and one is closer than each constant.
+// Whether all blocks that a fit finds are legal, and one is closer to the source than the best
+// void-extent block.
 fn is_fitted<const W: usize, const H: usize>(preset: Preset, source: &Source<W, H>) -> bool {
     let effort = Effort::of(preset, W.wrapping_mul(H));
     let weights = ChannelWeights::even();
@@ -49,7 +51,7 @@ fn fits_slopes(rt: HostRuntime) {
     assert!(rt; is_fitted(Preset::Medium, &slopes::<12, 12>()));
 }
 
-// The other places lie outside.
+// In a block of 5 by 4 texels, the last column lies outside the image.
 #[test]
 fn fits_part_of_a_block(rt: HostRuntime) {
     assert!(rt; is_fitted(Preset::Quick, &slopes::<5, 4>()));

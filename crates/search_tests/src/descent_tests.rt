@@ -1,5 +1,4 @@
-//! Settled blocks of sources whose best blocks are known. The other cases are data of
-//! `settling_cases`.
+//! Settled blocks of sources whose best blocks are known. More cases are data of `settling_cases`.
 ghost use Rattle.astc_model.specs.Blocks.{Legal};
 
 use astc_model::{
@@ -10,9 +9,9 @@ use descent::{encode_block, is_least};
 use std::process::Abort;
 use texel_error::{Steps, error_of};
 
-/// The texels 0xRRGGBBAA of the left and of the right two columns of a source, with the proposals
-/// that it is encoded with and their own errors; the error is at most this, and the bytes are
-/// these, if given.
+/// A source of 4 by 4 texels whose left and right halves have the texels `halves` (0xRRGGBBAA), the
+/// proposals for it with their errors, the greatest allowed error, and the expected bytes, if
+/// known.
 struct Encoded {
     preset: Preset,
     halves: [u32; 2],
@@ -83,7 +82,8 @@ fn block<const W: usize, const H: usize>(rt: &impl Abort, bytes: &[u8; 16]) -> B
     }
 }
 
-// The block of these bytes has this error, which no change of one integer makes smaller.
+// Checks that the block in these bytes has this error, and that no change of one integer reduces
+// it.
 fn check_settled<const W: usize, const H: usize>(
     rt: &impl Abort,
     (bytes, error): ([u8; 16], u32),
@@ -97,7 +97,7 @@ fn check_settled<const W: usize, const H: usize>(
     assert!(rt; is_least(&block, flavour, weights, source, &mut steps));
 }
 
-// The block of these bytes, which has this error.
+// The block in these bytes, after a check that it has this error.
 fn proposed(rt: &impl Abort, bytes: u128, error: u32, source: &Source<4, 4>) -> Block
     ensures { Legal 4 4 result }
 {
@@ -159,7 +159,8 @@ fn known_sources_are_encoded(rt: HostRuntime) {
     }
 }
 
-// The sources of one texel, and of four columns of which two are black, in a block of 12 by 12.
+// Sources that fill only a part of a block of 12 by 12 texels: one texel, and four columns of which
+// two are black.
 #[test]
 fn small_images_are_encoded(rt: HostRuntime) {
     let none: [Block; 0] = [];
@@ -201,9 +202,9 @@ fn small_images_are_encoded(rt: HostRuntime) {
     assert!(&rt; error <= 780312);
 }
 
-// All weights 0 show 63 for 64; each other value is worse, and finding that out takes at least one
-// step and at most those of 16 weights with 3 changes of one texel each and 2 colour integers with
-// 255 changes of 16 texels each.
+// All weights are 0, and the block shows 63 instead of the source's 64. Every other value is worse.
+// The test of this takes at least one step, and at most those of 16 weights with 3 changes of one
+// texel and of 2 colour integers with 255 changes of 16 texels.
 #[test]
 fn a_dark_block_is_least(rt: HostRuntime) {
     let source = halves([0x404040FF; 2]);

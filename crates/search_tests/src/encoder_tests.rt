@@ -1,5 +1,5 @@
-//! An encoder settles the same blocks with its shared tables as the search for one block with its
-//! private tables.
+//! An encoder with shared tables settles the same blocks as the functions for a single block, which
+//! compute what they need.
 ghost use Rattle.std.specs.Prelude.{IsTrue};
 ghost use Rattle.astc_model.specs.Footprints.{is_footprint};
 
@@ -11,7 +11,7 @@ use std::alloc::{AllocError, Global};
 use std::process::Abort;
 use texel_error::Steps;
 
-// A texel of colours that run across and down, with noise.
+// A texel of a picture with gradients and noise.
 fn texel(x: u32, y: u32) -> [u8; 4] {
     let noise = (x.wrapping_mul(7) ^ y.wrapping_mul(13)).wrapping_mul(0x9E3779B1) >> 27;
     let low = |value: u32| -> u8 { (value % 256) as u8 };
@@ -23,7 +23,7 @@ fn texel(x: u32, y: u32) -> [u8; 4] {
     ]
 }
 
-// A source whose first columns and rows are inside.
+// A source whose first columns and rows are inside the image.
 fn source<const W: usize, const H: usize>(columns: usize, rows: usize) -> Source<W, H>
     requires { IsTrue (is_footprint W H) }
 {
@@ -38,7 +38,7 @@ fn source<const W: usize, const H: usize>(columns: usize, rows: usize) -> Source
     source
 }
 
-// The bytes and the error of a block by the search for one block.
+// The bytes and the error of the block that the functions for a single block settle.
 fn alone<const W: usize, const H: usize>(preset: Preset, source: &Source<W, H>) -> ([u8; 16], u32) {
     let weights = ChannelWeights::even();
     let mut steps = Steps::<()>::new();
@@ -48,7 +48,8 @@ fn alone<const W: usize, const H: usize>(preset: Preset, source: &Source<W, H>) 
     }
 }
 
-// An encoder settles the same, with the grids of the source's pattern and without them.
+// Checks that an encoder settles the same block, with and without prepared grids for the places
+// that are inside the image.
 fn check<const W: usize, const H: usize>(
     rt: &impl Abort,
     alloc: Global,
@@ -65,7 +66,7 @@ fn check<const W: usize, const H: usize>(
     check_tables(rt, alloc, preset, Some(sides), &source, &bytes, error);
 }
 
-// The block that an encoder settles over tables is this one.
+// Checks that an encoder with tables settles this block.
 fn check_tables<const W: usize, const H: usize>(
     rt: &impl Abort,
     alloc: Global,
@@ -82,8 +83,8 @@ fn check_tables<const W: usize, const H: usize>(
     assert_eq!(rt; found_error, error);
 }
 
-// The block that an encoder settles over tables, which are made ready for the edges of a picture of
-// these sides.
+// The block that an encoder with tables settles. The tables are prepared for the edges of a picture
+// of these sides, if given.
 fn settled_by_tables<const W: usize, const H: usize>(
     alloc: Global,
     preset: Preset,
@@ -101,7 +102,7 @@ fn settled_by_tables<const W: usize, const H: usize>(
     Ok(encoder.settle(source, &[], scratch))
 }
 
-// Settings with even weights.
+// Settings with a weight of 1 for each channel.
 fn settings_of(preset: Preset, flavour: Flavour, fits: bool) -> Settings {
     Settings {
         preset,
@@ -111,7 +112,8 @@ fn settings_of(preset: Preset, flavour: Flavour, fits: bool) -> Settings {
     }
 }
 
-// A red half above a green one, of which the first rows are inside.
+// A source with a red upper half and a green lower half, whose first `rows` rows are inside the
+// image.
 fn halves<const W: usize, const H: usize>(rows: u16) -> Source<W, H>
     requires { IsTrue (is_footprint W H) }
 {
@@ -131,7 +133,8 @@ fn halves<const W: usize, const H: usize>(rows: u16) -> Source<W, H>
     source
 }
 
-// Compares the errors of the blocks that are settled without fits and with them.
+// Checks that an encoder without fits finds a block with the error `alone`, and one with fits a
+// block without error.
 fn check_fits<const W: usize, const H: usize>(
     rt: &impl Abort,
     preset: Preset,
@@ -156,10 +159,10 @@ fn check_fits<const W: usize, const H: usize>(
     assert_eq!(rt; fitted, 0);
 }
 
-// A line from red to green shows both halves. The mean is (128, 128, 0), and as far from both as
-// the middle of black and yellow, the ends of the one line that `quick` lists here: 127^2 + 128^2
-// per texel. With a row outside, the mean is (170, 85, 0), and the error 8 * (85^2 + 85^2) + 4 *
-// (170^2 + 170^2).
+// A line from red to green shows both halves exactly. The mean is (128, 128, 0), as is the middle
+// of black and yellow, the endpoints of the only line that `quick` lists here; its error is 127^2 +
+// 128^2 per texel. With a row outside, the mean is (170, 85, 0), and its error 8 * (85^2 + 85^2) +
+// 4 * (170^2 + 170^2).
 #[test]
 fn a_fitted_block_betters_the_mean(rt: HostRuntime) {
     check_fits::<4, 4>(&rt, Preset::Flat, 4, 520_208);

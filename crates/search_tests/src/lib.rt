@@ -1,5 +1,5 @@
-// Tests of `ideal_weights`, `block_fit`, `descent`, `pair_descent`, `encoder`, over their public
-// calls.
+// Tests of `ideal_weights`, `block_fit`, `descent`, `pair_descent` and `encoder` through their
+// public functions.
 #![tactic(auto)]
 
 #[cfg(test)]

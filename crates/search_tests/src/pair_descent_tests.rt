@@ -1,5 +1,5 @@
-//! A block that no single change improves, and a change of a pair does. The verdicts on other
-//! blocks are data of `settling_cases`.
+//! A block that no single change improves, but a change of a pair does. Verdicts on other blocks
+//! are data of `settling_cases`.
 ghost use Rattle.astc_model.specs.Blocks.{Legal};
 
 use astc_model::{
@@ -10,8 +10,8 @@ use pair_descent::{pair_least, settle_pairs};
 use std::process::Abort;
 use texel_error::error_of;
 
-// All weights 0 and the colours 252 and 0 show 63 for 64; no single change is better, but the
-// colours 0 and 64 are.
+// A block whose weights are all 0 and whose colour integers 252 and 0 decode to 63, for a source of
+// 64. No single change is better, but the colour integers 0 and 64 are.
 const DARK: u128 = 0x4220F801000000000000000000000000;
 
 fn dark(rt: &impl Abort) -> Block
@@ -23,7 +23,7 @@ fn dark(rt: &impl Abort) -> Block
     }
 }
 
-// A source of one texel everywhere.
+// A source with the same texel in all places.
 fn even(texel: [u8; 4]) -> Source<4, 4> {
     let mut source = Source::new(Footprint::<4, 4>::new());
     for y in 0..4u8 {

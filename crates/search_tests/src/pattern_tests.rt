@@ -1,4 +1,4 @@
-// The parts that seeds are ranked by are those of the blocks.
+// Fits rank seeds by the same partitions that decoders use.
 ghost use Rattle.std.specs.Prelude.{◌≤◌, ◌<◌, IsTrue};
 ghost use Rattle.astc_model.specs.Footprints.{is_footprint};
 
@@ -6,7 +6,7 @@ use ideal_weights::put_parts;
 use partition_hash::part_of;
 use std::process::Abort;
 
-// Every place has the same part in the map of a fit as in a block.
+// Checks that each place has the same partition in the map of a fit as in a block.
 fn check_seed<const W: usize, const H: usize>(rt: &impl Abort, parts: u8, seed: u16)
     requires footprint { IsTrue (is_footprint W H) }
     requires some { 1 ≤ parts }
@@ -29,7 +29,7 @@ fn check_seed<const W: usize, const H: usize>(rt: &impl Abort, parts: u8, seed: 
     }
 }
 
-// Coordinates are doubled in the smaller of the two footprints.
+// Coordinates are doubled in 4 by 4 blocks, but not in 12 by 12 blocks.
 #[test]
 fn seeds_are_ranked_by_the_parts_of_blocks(rt: HostRuntime) {
     for parts in 2..5 {
