@@ -1,5 +1,5 @@
--- The colour values of the integers of each level from 6 up
--- (Khronos Data Format Specification, ASTC, "Endpoint Unquantization").
+-- The unquantized colour values at each level from 6 up (Khronos Data Format Specification, ASTC,
+-- "Endpoint Unquantization").
 use Rattle.std.specs.Prelude.{ℕ, ◌*◌, ◌/◌, ◌^◌, bit_and, bit_or, List, [], ◌∷◌}
 use Rattle.std.specs.Int.{bit_at}
 use Rattle.astc_model.specs.Levels.{digit_of, low_bits_of}
@@ -9,8 +9,8 @@ use Rattle.astc_model.specs.declared.level.Digit.TheVariants.{Bits, Trit, Quint}
 use Rattle.astc_model.specs.declared.level.Level.{Level}
 use Rattle.astc_model.specs.declared.level.Level.TheVariants.{Ten, Twelve, Twenty, TwentyFour, Forty, FortyEight, Eighty, NinetySix, OneSixty, OneNinetyTwo, Six}
 
--- the nine bits of B, the highest first, if the low bits of the integer are a, b, c, d, e, f from
--- the lowest
+-- B of the standard's table: nine bits, the highest first, where b to f are bits 1 to 5 of the
+-- integer
 abbrev pub colour_bits : Level → (b c d e f : ℕ) → List ℕ
 colour_bits Twelve b c d e f = b ∷ 0 ∷ 0 ∷ 0 ∷ b ∷ 0 ∷ b ∷ b ∷ 0 ∷ []
 colour_bits Twenty b c d e f = b ∷ 0 ∷ 0 ∷ 0 ∷ 0 ∷ b ∷ b ∷ 0 ∷ 0 ∷ []
@@ -23,7 +23,7 @@ colour_bits OneSixty b c d e f = e ∷ d ∷ c ∷ b ∷ 0 ∷ 0 ∷ 0 ∷ 0 ∷
 colour_bits OneNinetyTwo b c d e f = f ∷ e ∷ d ∷ c ∷ b ∷ 0 ∷ 0 ∷ 0 ∷ f ∷ []
 colour_bits _ b c d e f = []
 
--- C, the factor of the digit
+-- C of the standard's table, by which the digit is multiplied
 abbrev pub colour_factor : Level → ℕ
 colour_factor Six = 204
 colour_factor Ten = 113
@@ -38,7 +38,8 @@ colour_factor OneSixty = 6
 colour_factor OneNinetyTwo = 5
 colour_factor _ = 0
 
--- the value of an integer with a digit: A is its lowest bit nine times
+-- the value of an integer with a trit or quint, with the standard's A, B, D and T; A repeats the
+-- lowest bit of the integer nine times
 abbrev pub colour_of_digit : Level → ℕ → ℕ
 colour_of_digit level i =
     let A = 511 * bit_at i 0 in
@@ -48,12 +49,13 @@ colour_of_digit level i =
     let T = mixed A B (colour_factor level) D in
     bit_or (bit_and A 128) (T / 4)
 
--- the value, 0 to 255: by replication if the level has bits alone, else by its digit
+-- the value, 0 to 255, of an integer: by bit replication at levels without digits, else from the
+-- digit
 abbrev pub colour_by : Digit → Level → ℕ → ℕ
 colour_by Bits level i = replicated 8 (low_bits_of level) i
 colour_by Trit level i = colour_of_digit level i
 colour_by Quint level i = colour_of_digit level i
 
--- the value, 0 to 255, of the integer i of a level
+-- the unquantized value, 0 to 255, of the integer i of a level
 unfoldable pub colour_value : Level → ℕ → ℕ
 colour_value level i = colour_by (digit_of level) level i

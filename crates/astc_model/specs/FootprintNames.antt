@@ -1,11 +1,12 @@
--- The names of the footprints: their sides, formats' numbers and words.
+-- The names of the footprints: their sides, the numbers of their formats in OpenGL, and their words
+-- on the command line.
 use Rattle.std.specs.Prelude.{ℕ, ◌+◌, List, codes}
 pub use Rattle.astc_model.specs.declared.flavour.Flavour.{Flavour}
 use Rattle.astc_model.specs.declared.flavour.Flavour.TheVariants.{Linear, Srgb}
 pub use Rattle.astc_model.specs.declared.footprint_name.FootprintName.{FootprintName}
 use Rattle.astc_model.specs.declared.footprint_name.FootprintName.TheVariants.{F4x4, F5x4, F5x5, F6x5, F6x6, F8x5, F8x6, F8x8, F10x5, F10x6, F10x8, F10x10, F12x10, F12x12}
 
--- width and height in texels
+-- the width and height in texels
 abbrev pub sides_of : FootprintName → ℕ × ℕ
 sides_of F4x4 = (4, 4)
 sides_of F5x4 = (5, 4)
@@ -22,7 +23,7 @@ sides_of F10x10 = (10, 10)
 sides_of F12x10 = (12, 10)
 sides_of F12x12 = (12, 12)
 
--- the place in the list of footprints
+-- the index of the footprint in the order of the formats' numbers
 abbrev pub footprint_place : FootprintName → ℕ
 footprint_place F4x4 = 0
 footprint_place F5x4 = 1
@@ -44,7 +45,7 @@ abbrev pub gl_of : FootprintName → Flavour → ℕ
 gl_of name Linear = 0x93B0 + footprint_place name
 gl_of name Srgb = 0x93D0 + footprint_place name
 
--- the word that names it
+-- the word for the footprint on the command line
 abbrev pub footprint_word : FootprintName → List ℕ
 footprint_word F4x4 = codes "4x4"
 footprint_word F5x4 = codes "5x4"

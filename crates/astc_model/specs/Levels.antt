@@ -1,5 +1,5 @@
--- The level counts of an integer sequence
--- (Khronos Data Format Specification, ASTC, "Integer Sequence Encoding").
+-- The quantization levels of integer sequences (Khronos Data Format Specification, ASTC, "Integer
+-- Sequence Encoding").
 use Rattle.std.specs.Prelude.{ℕ, ◌+◌, ◌*◌, ◌/◌, ◌^◌, Bool, ◌==◌, List, [], ◌∷◌}
 use Rattle.std.specs.List.{list_any}
 use Rattle.astc_model.specs.declared.level.Digit.{Digit}
@@ -7,7 +7,7 @@ use Rattle.astc_model.specs.declared.level.Digit.TheVariants.{Bits, Trit, Quint}
 use Rattle.astc_model.specs.declared.level.Level.{Level}
 use Rattle.astc_model.specs.declared.level.Level.TheVariants.{Two, Three, Four, Five, Six, Eight, Ten, Twelve, Sixteen, Twenty, TwentyFour, ThirtyTwo, Forty, FortyEight, SixtyFour, Eighty, NinetySix, OneTwentyEight, OneSixty, OneNinetyTwo, TwoFiftySix}
 
--- whether a value has a trit or a quint above its low bits, or bits alone
+-- whether an integer of the level has a trit, a quint or nothing above its low bits
 abbrev pub digit_of : Level → Digit
 digit_of Two = Bits
 digit_of Three = Trit
@@ -31,7 +31,7 @@ digit_of OneSixty = Quint
 digit_of OneNinetyTwo = Trit
 digit_of TwoFiftySix = Bits
 
--- the low bits of a value
+-- the number of low bits of an integer
 abbrev pub low_bits_of : Level → ℕ
 low_bits_of Two = 1
 low_bits_of Three = 0
@@ -61,25 +61,25 @@ base_of Bits = 1
 base_of Trit = 3
 base_of Quint = 5
 
--- the number of values of the level
+-- the number of values of an integer of the level
 abbrev pub count_of : Level → ℕ
 count_of level = base_of (digit_of level) * 2 ^ low_bits_of level
 
--- the bits that n digits take: five trits share 8 bits, three quints share 7, rounded up
+-- the number of bits of n digits: five trits take 8 bits, three quints take 7, rounded up
 abbrev pub digit_bits : Digit → ℕ → ℕ
 digit_bits Bits n = 0
 digit_bits Trit n = (8 * n + 4) / 5
 digit_bits Quint n = (7 * n + 2) / 3
 
--- the length in bits of a sequence of n values
+-- the length in bits of a sequence of n integers
 abbrev pub sequence_bits : Level → ℕ → ℕ
 sequence_bits level n = n * low_bits_of level + digit_bits (digit_of level) n
 
--- the counts of all levels, ascending
+-- the numbers of values of all levels, in ascending order
 abbrev pub level_counts : List ℕ
 level_counts = 2 ∷ 3 ∷ 4 ∷ 5 ∷ 6 ∷ 8 ∷ 10 ∷ 12 ∷ 16 ∷ 20 ∷ 24 ∷ 32 ∷ 40 ∷ 48 ∷ 64 ∷ 80 ∷ 96 ∷ 128
     ∷ 160 ∷ 192 ∷ 256 ∷ []
 
--- whether a level has this count
+-- whether a level has this number of values
 abbrev pub is_level_count : ℕ → Bool
 is_level_count count = list_any (λ n. n == count) level_counts

@@ -3,7 +3,7 @@ use Rattle.std.specs.Prelude.{ℕ, List, codes}
 pub use Rattle.astc_model.specs.declared.preset.Preset.{Preset}
 use Rattle.astc_model.specs.declared.preset.Preset.TheVariants.{Flat, Quick, Medium, Thorough, Pairs}
 
--- the word that names the preset
+-- the word for the preset on the command line
 abbrev pub preset_word : Preset → List ℕ
 preset_word Flat = codes "flat"
 preset_word Quick = codes "quick"

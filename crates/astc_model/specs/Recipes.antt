@@ -1,11 +1,12 @@
--- The recipes of each preset.
+-- The recipes of each preset: a list of groups, whose entries are combined with seeds and block
+-- modes.
 use Rattle.std.specs.Prelude.{ℕ, ◌-◌, List, [], ◌∷◌, map}
 use Rattle.std.specs.List.{range_with_len, flat_map}
 use Rattle.astc_model.specs.declared.recipe.Recipe.{Recipe}
 use Rattle.astc_model.specs.declared.preset.Preset.{Preset}
 use Rattle.astc_model.specs.declared.preset.Preset.TheVariants.{Flat, Quick, Medium, Thorough, Pairs}
 
--- what a recipe says besides its mode and its seed
+-- a recipe with block mode 0 and seed 0
 abbrev pub entry : (plane parts cem flip : ℕ) → Recipe
 entry plane parts cem flip = record {
   mode = 0;
@@ -16,20 +17,20 @@ entry plane parts cem flip = record {
   flip = flip;
 }
 
--- a recipe of this mode and seed
+-- the recipe with another block mode, and with another seed
 abbrev pub with_mode : ℕ → Recipe → Recipe
 with_mode mode recipe = record recipe { mode = mode }
 
 abbrev pub with_seed : ℕ → Recipe → Recipe
 with_seed seed recipe = record recipe { seed = seed }
 
--- a group of recipes: the number of its seeds, from 0 on, and the entries tried with each seed and
--- mode
+-- a group of recipes: the number of its seeds, which are counted from 0, and its entries, which are
+-- combined with each seed and each block mode
 pub record Group : Type 0 where
   pub seeds : ℕ
   pub entries : List Recipe
 
--- the colour endpoint modes of the LDR profile, in order
+-- the endpoint modes of the LDR profile, in order
 abbrev pub all_cems : List ℕ
 all_cems = 0 ∷ 1 ∷ 4 ∷ 5 ∷ 6 ∷ 8 ∷ 9 ∷ 10 ∷ 12 ∷ 13 ∷ []
 
@@ -72,7 +73,7 @@ group_9 = record { seeds = 16; entries = map (λ cem. entry 0 3 cem 0) (6 ∷ 8 
 abbrev pub group_10 : Group
 group_10 = record { seeds = 16; entries = map (λ cem. entry 0 4 cem 0) (0 ∷ 6 ∷ []) }
 
--- the groups of each preset: those of the one before it, and more
+-- the groups of the presets quick, medium and thorough; each has those of the one before
 abbrev pub quick_groups : List Group
 quick_groups = group_1 ∷ []
 
@@ -83,7 +84,7 @@ abbrev pub thorough_groups : List Group
 thorough_groups = group_1 ∷ group_2 ∷ group_3 ∷ group_4 ∷ group_5 ∷ group_6 ∷ group_7 ∷ group_8
     ∷ group_9 ∷ group_10 ∷ []
 
--- the groups of a preset: none of flat, and those of quick for pairs
+-- the groups of each preset; flat has none, and pairs has those of quick
 unfoldable pub groups : Preset → List Group
 groups Flat = []
 groups Quick = quick_groups
@@ -91,7 +92,8 @@ groups Medium = medium_groups
 groups Thorough = thorough_groups
 groups Pairs = quick_groups
 
--- the recipes of a group with this number of modes: for each seed, for each mode, each entry
+-- the recipes of a group with this number of block modes: ordered by seed, then by mode, then by
+-- entry
 abbrev pub recipes_of : ℕ → Group → List Recipe
 recipes_of modes group =
     flat_map (λ seed. flat_map

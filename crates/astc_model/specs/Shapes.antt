@@ -1,6 +1,6 @@
--- The shape of a coded block: how many weights and colour integers it has, their levels, and what
--- is at fault with it (Khronos Data Format Specification, ASTC, "Block Layout", "Color Endpoint
--- Mode" and "Illegal Encodings").
+-- The shape of a coded block: the numbers and levels of its weights and colour integers, and its
+-- faults (Khronos Data Format Specification, ASTC, "Block Layout", "Color Endpoint Mode" and
+-- "Illegal Encodings").
 use Rattle.std.specs.Prelude.{ℕ, ◌+◌, ◌-◌, ◌*◌, ◌≤◌, not, ◌&&◌, ◌||◌, ◌==◌, nat_lt, nat_le, if◌then◌else◌, List, [], ◌∷◌, take, sum_by, Option, None, Some, Result, Ok, Err}
 use Rattle.std.specs.List.{list_all, find}
 use Rattle.std.specs.Option.{ok_or, option_or}
@@ -16,15 +16,15 @@ use Rattle.astc_model.specs.declared.block.BlockFault.TheVariants.{ReservedMode,
 
 -- ---- the weights
 
--- the number of weights, over both planes
+-- the number of weights over both planes
 abbrev pub weight_count : Mode → ℕ
 weight_count mode = mode.across * mode.down * mode.planes
 
--- the length of their sequence in bits
+-- the length in bits of the sequence of weights
 abbrev pub weight_data_bits : Mode → ℕ
 weight_data_bits mode = sequence_bits mode.level (weight_count mode)
 
--- what is at fault with the weights of this mode in a block of w by h texels, the first in order
+-- the first fault of the weight grid of a block of w by h texels with this mode
 unfoldable pub grid_fault : ℕ → ℕ → Mode → Option BlockFault
 grid_fault w h mode =
     if nat_lt w mode.across || nat_lt h mode.down then Some GridTooLarge
@@ -35,53 +35,53 @@ grid_fault w h mode =
 
 -- ---- the colours
 
--- the number of colour integers of the first partitions of these endpoint modes
+-- the number of colour integers of the first partitions with these endpoint modes
 abbrev pub colour_count : ℕ → List ℕ → ℕ
 colour_count parts cems = sum_by endpoint_integers (take parts cems)
 
--- the first bit of the colour integers: after the endpoint mode of one partition, or after the seed
--- of several partitions and six bits of their endpoint modes
+-- the first bit of the colour integers: it follows the endpoint mode of one partition, or the
+-- partition index and six endpoint mode bits of several
 abbrev pub colour_start : ℕ → ℕ
 colour_start parts = if parts == 1 then 17 else 29
 
--- the number of bits of the endpoint modes below the weights
+-- the number of endpoint mode bits directly below the weights
 abbrev pub high_mode_bits : ℕ → ℕ → ℕ
 high_mode_bits parts selector = if selector == 0 then 0 else 3 * parts - 4
 
--- how many bits name the component of the second plane
+-- the number of bits of the component selector for the second plane
 abbrev pub plane_bits : Mode → ℕ
 plane_bits mode = if mode.planes == 2 then 2 else 0
 
--- how many bits everything but the colour integers takes
+-- the number of bits that the colour integers cannot use
 abbrev pub taken_bits : Mode → ℕ → ℕ → ℕ
 taken_bits mode parts selector =
     colour_start parts + weight_data_bits mode + high_mode_bits parts selector + plane_bits mode
 
--- the levels of colour integers, the greatest first
+-- the levels that colour integers can have, the greatest first
 abbrev pub colour_levels : List Level
 colour_levels =
     TwoFiftySix ∷ OneNinetyTwo ∷ OneSixty ∷ OneTwentyEight ∷ NinetySix ∷ Eighty ∷ SixtyFour
     ∷ FortyEight ∷ Forty ∷ ThirtyTwo ∷ TwentyFour ∷ Twenty ∷ Sixteen ∷ Twelve ∷ Ten ∷ Eight
     ∷ Six ∷ []
 
--- the greatest level, from level 6 on, whose sequence of n integers fits into a block with this
--- number of bits taken
+-- the greatest level from 6 on whose sequence of n integers fits into a block after `taken` bits;
+-- None if level 6 does not fit
 unfoldable pub greatest_fit : ℕ → ℕ → Option Level
 greatest_fit taken n = find (λ level. nat_le (taken + sequence_bits level n) 128) colour_levels
 
--- the level of n colour integers in a block of this shape
+-- the level of n colour integers in a block with this mode, partitions and selector
 abbrev pub colour_level_of : Mode → ℕ → ℕ → ℕ → Option Level
 colour_level_of mode parts selector n = greatest_fit (taken_bits mode parts selector) n
 
--- the sequence of n integers of this level fits into a block with this number of bits taken, and no
--- sequence of a greater level does
+-- the level is the greatest one from 6 on whose sequence of n integers fits into a block after
+-- `taken` bits
 pub record IsGreatestFit (taken n : ℕ) (level : Level) : Type 0 where
   pub six : 6 ≤ count_of level
   pub fits : taken + sequence_bits level n ≤ 128
   pub greatest : (other : Level) → 6 ≤ count_of other → taken + sequence_bits other n ≤ 128
       → count_of other ≤ count_of level
 
--- the level of the colour integers, or their first fault
+-- the level of the colour integers of a block, or the first fault of its colours
 unfoldable pub colour_shape : Mode → ℕ → ℕ → List ℕ → Result Level BlockFault
 colour_shape mode parts selector cems =
     if (mode.planes == 2) && (parts == 4) then Err DualPlaneFour
@@ -89,41 +89,41 @@ colour_shape mode parts selector cems =
     else (if not (list_all is_ldr_mode (take parts cems)) then Err HdrEndpoint
     else ok_or (colour_level_of mode parts selector (colour_count parts cems)) ColourBits))
 
--- ---- the whole
+-- ---- the whole shape
 
--- the first fault of a coded block that has this mode
+-- the first fault of the shape of a coded block with this decoded mode
 abbrev pub fault_under : ℕ → ℕ → CodedFields → Option Mode → Option BlockFault
 fault_under w h coded None = Some ReservedMode
 fault_under w h coded (Some mode) =
     option_or (grid_fault w h mode)
     (result_err (colour_shape mode coded.parts coded.selector coded.cems))
 
--- the first fault of a coded block of w by h texels that its fields other than colours and weights
--- show
+-- the first fault of the fields of a coded block of w by h texels other than its colour integers
+-- and weights
 unfoldable pub fault_of_shape : ℕ → ℕ → CodedFields → Option BlockFault
 fault_of_shape w h coded = fault_under w h coded (decoded_mode coded.mode)
 
--- the number of values of a level, 0 after a fault
+-- the number of values of a level; 0 for a fault
 abbrev pub count_at : Result Level BlockFault → ℕ
 count_at (Ok level) = count_of level
 count_at (Err fault) = 0
 
--- the number of values of a colour integer of a coded block, by its mode: 0 if the shape has no
--- colour level, or the number has no mode
+-- the number of values of a colour integer in a coded block with this decoded mode; 0 if the mode
+-- is reserved or the colours have a fault
 abbrev pub colour_range_under : CodedFields → Option Mode → ℕ
 colour_range_under coded None = 0
 colour_range_under coded (Some mode) =
     count_at (colour_shape mode coded.parts coded.selector coded.cems)
 
--- the same by the mode that its number says
+-- the number of values of a colour integer in a coded block
 abbrev pub colour_range : CodedFields → ℕ
 colour_range coded = colour_range_under coded (decoded_mode coded.mode)
 
--- the number of values of a weight of a coded block, 0 if its mode is reserved
+-- the number of values of a weight integer under a decoded mode; 0 if the mode is reserved
 abbrev pub weight_range_under : Option Mode → ℕ
 weight_range_under None = 0
 weight_range_under (Some mode) = count_of mode.level
 
--- ... by the mode that its number says
+-- the number of values of a weight integer in a coded block
 abbrev pub weight_range : CodedFields → ℕ
 weight_range coded = weight_range_under (decoded_mode coded.mode)

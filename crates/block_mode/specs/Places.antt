@@ -1,9 +1,9 @@
--- The places of levels in a table.
+-- The indices of levels in tables.
 use Rattle.std.specs.Prelude.{ℕ}
 use Rattle.astc_model.specs.declared.level.Level.{Level}
 use Rattle.astc_model.specs.declared.level.Level.TheVariants.{Two, Three, Four, Five, Six, Eight, Ten, Twelve, Sixteen, Twenty, TwentyFour, ThirtyTwo, Forty, FortyEight, SixtyFour, Eighty, NinetySix, OneTwentyEight, OneSixty, OneNinetyTwo, TwoFiftySix}
 
--- the place of a level among all, from the least
+-- the index of a level, in ascending order
 unfoldable pub level_place : Level → ℕ
 level_place Two = 0
 level_place Three = 1

@@ -1,4 +1,4 @@
--- The places of the fields of a coded block (Khronos Data Format Specification, ASTC, "Block
+-- The positions of the fields of a coded block (Khronos Data Format Specification, ASTC, "Block
 -- Layout", "Partitioning" and "Color Endpoint Mode").
 use Rattle.std.specs.Prelude.{◌≡◌, ◌<◌, ◌≤◌, ℕ, ◌+◌, ◌-◌, ◌*◌, ◌/◌, ◌%◌, ◌^◌, List, [], ◌∷◌, length, slice_index}
 use Rattle.std.specs.Int.{bit_at}
@@ -15,12 +15,13 @@ use Rattle.block_writer.specs.Written.{colours_end, top_start}
 
 -- ---- the partitions and their endpoint modes
 
--- one partition: its endpoint mode
+-- the fields of one partition: its endpoint mode
 pub record IsOfOne (coded : CodedFields) (fields : PartitionFields) : Type 0 where
   pub low_width : fields.low_bits ≡ 4
   pub low : fields.low ≡ slice_index coded.cems 0
 
--- several partitions: their seed, and the endpoint modes in two runs of bits
+-- the fields of several partitions: the partition index, and the code of the endpoint modes in two
+-- parts
 pub record IsOfSeveral (coded : CodedFields) (fields : PartitionFields) : Type 0 where
   pub low_width : fields.low_bits ≡ 10
   pub low : fields.low ≡ coded.seed
@@ -29,7 +30,8 @@ pub record IsOfSeveral (coded : CodedFields) (fields : PartitionFields) : Type 0
   pub modes : modes_in_code coded.parts coded.selector (fields.middle + 64 * fields.high)
       ≡ coded.cems
 
--- the partitions and endpoint modes of the block are in these fields, as wide as the standard says
+-- the fields have the partition index and the endpoint modes of the block, with the widths of the
+-- standard
 pub record ArePartitionFields (coded : CodedFields) (fields : PartitionFields) : Type 0 where
   pub start : 13 + fields.low_bits + fields.middle_bits ≡ colour_start coded.parts
   pub high_width : fields.high_bits ≡ high_mode_bits coded.parts coded.selector
@@ -39,8 +41,8 @@ pub record ArePartitionFields (coded : CodedFields) (fields : PartitionFields) :
   pub one : coded.parts ≡ 1 → IsOfOne coded fields
   pub several : 2 ≤ coded.parts → IsOfSeveral coded fields
 
--- the bits that give the class of a partition's mode from the selector less one, and those inside
--- the class
+-- the class bit of a partition in the code (the class of its mode minus the least class of the
+-- selector), and the two bits of its mode in the class
 abbrev pub class_bit_of : CodedFields → ℕ → ℕ
 class_bit_of coded part =
     if_part coded.parts part (slice_index coded.cems part / 4 + 1 - coded.selector)
@@ -48,21 +50,21 @@ class_bit_of coded part =
 abbrev pub bits_in_class : CodedFields → ℕ → ℕ
 bits_in_class coded part = slice_index coded.cems part % 4
 
--- the number of the endpoint modes with a selector of 1 to 3: the selector, a class bit for each
--- partition, two bits for each; the fields of partitions that the block lacks are empty
+-- the widths of the fields of the code of the endpoint modes, for a selector of 1 to 3: the
+-- selector, a class bit for each partition, and two mode bits for each; 0 for missing partitions
 abbrev pub code_widths : ℕ → List ℕ
 code_widths parts =
     2 ∷ if_part parts 0 1 ∷ if_part parts 1 1 ∷ if_part parts 2 1 ∷ if_part parts 3 1
     ∷ if_part parts 0 2 ∷ if_part parts 1 2 ∷ if_part parts 2 2 ∷ if_part parts 3 2 ∷ []
 
--- the values of these fields, in the same order
+-- the values of the fields of the code, in the order of their widths
 abbrev pub code_values : CodedFields → List ℕ
 code_values coded =
     coded.selector ∷ class_bit_of coded 0 ∷ class_bit_of coded 1 ∷ class_bit_of coded 2
     ∷ class_bit_of coded 3 ∷ bits_in_class coded 0 ∷ bits_in_class coded 1
     ∷ bits_in_class coded 2 ∷ bits_in_class coded 3 ∷ []
 
--- this is the number of the endpoint modes
+-- the number is the code of the block's endpoint modes, whose bits are stored in two places
 pub record IsCodeOf (coded : CodedFields) (code : ℕ) : Type 0 where
   pub small : code < 2 ^ (6 + high_mode_bits coded.parts coded.selector)
   pub selector : field_of code 0 2 ≡ coded.selector
@@ -70,9 +72,9 @@ pub record IsCodeOf (coded : CodedFields) (code : ℕ) : Type 0 where
 
 -- ---- the whole block
 
--- the widths and the values of all fields, the lowest first: the mode, the number of partitions,
--- their two low fields, the colour integers, nothing, the component of the second plane, the high
--- bits of the endpoint modes, the weights
+-- the widths and the values of all fields of a block, the lowest first: block mode, number of
+-- partitions, the two low fields of the partitions, colour integers, unused bits, component of the
+-- second plane, the rest of the code, weights
 abbrev pub layout_widths : CodedFields → Mode → Level → PartitionFields → List ℕ
 layout_widths coded mode level fields =
     11 ∷ 2 ∷ fields.low_bits ∷ fields.middle_bits ∷ sequence_bits level (length coded.colours.items)
@@ -85,13 +87,13 @@ layout_values coded level fields weights =
     ∷ written_sequence level coded.colours.items ∷ 0 ∷ (coded.plane - 1) ∷ fields.high ∷ weights
     ∷ []
 
--- the weights' sequence, turned so that its first bit is the highest
+-- the number has the sequence of the weights in reverse bit order
 pub record AreTurnedWeights (coded : CodedFields) (mode : Mode) (weights : ℕ) : Type 0 where
   pub turned : (i : ℕ) → i < weight_data_bits mode → bit_at weights (weight_data_bits mode - 1 - i)
       ≡ bit_at (written_sequence mode.level coded.weights.items) i
   pub turned_fits : weights < 2 ^ weight_data_bits mode
 
--- z has each field of the block at its place
+-- the number z has each field of the block at its position
 pub record AreFieldsOf (z : ℕ) (coded : CodedFields) (mode : Mode) (level : Level) : Type 0 where
   pub mode_field : field_of z 0 11 ≡ coded.mode
   pub parts_field : field_of z 11 2 ≡ coded.parts - 1

@@ -10,13 +10,13 @@ use Rattle.astc_model.specs.Blocks.{AreFieldsInRange, AreSparesFixed, IsPlaneOf}
 use Rattle.astc_model.specs.Levels.{count_of, sequence_bits}
 use Rattle.astc_model.specs.Shapes.{weight_count, weight_data_bits, taken_bits}
 
--- the sizes of the weights of a mode
+-- the weights of a mode have legal sizes
 pub record AreModeSizes (mode : Mode) : Type 0 where
   pub range : IsInModeRange mode
   pub few : weight_count mode ≤ 64
   pub short : weight_data_bits mode ≤ 96
 
--- a block whose fields and sequences fit
+-- the fields and the sequences of a block fit
 pub record IsWritable (coded : CodedFields) (mode : Mode) (level : Level) : Type 0 where
   pub fields : AreFieldsInRange coded
   pub spares : AreSparesFixed coded

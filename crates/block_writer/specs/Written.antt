@@ -1,5 +1,6 @@
--- The written bits of a block, apart from their reading as the block (Khronos Data Format
--- Specification, ASTC, "Block Layout" and "Integer Sequence Encoding").
+-- The bits of an encoded block that the decoder does not determine: unused bits, and the choice
+-- between encodings (Khronos Data Format Specification, ASTC, "Block Layout" and "Integer Sequence
+-- Encoding").
 use Rattle.std.specs.Prelude.{◌≡◌, ◌<◌, ◌≤◌, ℕ, ◌+◌, ◌-◌, length, Some, Ok}
 use Rattle.std.specs.Int.{bit_at}
 use Rattle.astc_model.specs.declared.block.Block.{Block}
@@ -14,20 +15,20 @@ use Rattle.astc_model.specs.Sequences.{written_sequence}
 use Rattle.astc_model.specs.Shapes.{weight_data_bits, colour_start, colour_shape, plane_bits}
 use Rattle.astc_model.specs.Fields.{high_modes_start}
 
--- ---- the bits that no field covers
+-- ---- unused bits
 
--- the bit after the colour integers
+-- the position after the colour integers
 abbrev pub colours_end : CodedFields → Level → ℕ
 colours_end coded level = colour_start coded.parts + sequence_bits level
     (length coded.colours.items)
 
--- the lowest bit of the fields at the top: the component of the second plane, the high bits of the
--- endpoint modes and the weights, if the block has them
+-- the position of the lowest field at the top of the block: the component of the second plane, the
+-- endpoint mode bits below the weights, and the weights, as far as the block has them
 abbrev pub top_start : CodedFields → Mode → ℕ
 top_start coded mode = high_modes_start mode coded.parts coded.selector - plane_bits mode
 
--- each bit of z that no field covers is 0: of a coded block those between the colour integers and
--- the top; a void extent has fields over all bits
+-- each unused bit of z is 0: in a coded block, those between the colour integers and the fields at
+-- the top; a void extent has no unused bits
 abbrev pub AreUnusedZero : Block → ℕ → Type 0
 AreUnusedZero (Constant constant) z = Unit {0}
 AreUnusedZero (Coded coded) z =
@@ -37,8 +38,8 @@ AreUnusedZero (Coded coded) z =
 
 -- ---- the sequences
 
--- the colour integers and the weights of a coded block are in z with the least codes: of several
--- codes for the same digits, the standard leaves the choice
+-- the colour integers and the weights of a coded block are encoded in z with the least T or Q in
+-- each group; the standard leaves the choice between encodings of the same digits
 abbrev pub AreSequencesLeast : Block → ℕ → Type 0
 AreSequencesLeast (Constant constant) z = Unit {0}
 AreSequencesLeast (Coded coded) z =

@@ -1,4 +1,4 @@
--- The result of a walk over the candidates.
+-- Results of walks over the candidates of a preset: whether one has an error under a limit.
 use Rattle.std.specs.Prelude.{ℕ, ◌≤◌, ◌<◌, List, Option}
 use Rattle.std.specs.Option.{IfSome}
 use Rattle.std.specs.List.{All, filter_map}
@@ -18,7 +18,7 @@ unfoldable pub IsOver : ℕ → ℕ → Flavour → Weighting → List (Option T
 IsOver w h flavour weights places limit recipe = IfSome (candidate w h recipe places)
     (λ block. limit ≤ error w h flavour weights block places)
 
--- with no mode has the candidate of a shape of the preset an error under the limit
+-- no candidate that a shape of the preset gives with any block mode has an error under the limit
 abbrev pub NoneOfWalkUnder : ℕ → ℕ → Flavour → Weighting → Preset → List (Option Texel) → ℕ → Type 0
 NoneOfWalkUnder w h flavour weights preset places limit =
     (mode : ℕ) → mode < 2048

@@ -1,4 +1,5 @@
--- Which values of a colour integer of a part may give a smaller error.
+-- Bounds on the form of a partition by the value of one colour integer. The form is a lower bound
+-- on the error (`moments`); the place of an integer is its index among those of its partition.
 use Rattle.std.specs.Prelude.{◌≡◌, ◌⊎◌, ℕ, ◌+◌, ◌-◌, ◌*◌, ◌%◌, ◌^◌, ◌<◌, ◌≤◌, ◌==◌, ◌||◌, nat_le, if◌then◌else◌, List, [], ◌∷◌, take, slice_index, slice_set, sum_by, IfSome, IsTrue}
 use Rattle.astc_model.specs.Endpoints.{endpoint_integers, endpoint_colours, luminance_direct, luminance_alpha_direct}
 use Rattle.error_tables.specs.ChannelForms.{one_more, one_less, IsSmallOne}
@@ -16,12 +17,12 @@ use Rattle.colour_bounds.specs.declared.bounds.ValueBounds.{ValueBounds}
 use Rattle.colour_bounds.specs.declared.part_scan.PartitionScan.{PartitionScan}
 use Rattle.colour_bounds.specs.declared.three_channels.ThreeChannels.{ThreeChannels}
 
--- the ends of a part with one of its colour values replaced
+-- the endpoints of a partition with another value at `place`
 abbrev pub ends_of : (mode : ℕ) → List ℕ → (place value : ℕ) → List ℕ × List ℕ
 ends_of mode values place value =
     endpoint_colours mode (slice_set (take (endpoint_integers mode) values) place value)
 
--- the two colours of a mode that gives them, in their order
+-- the two colours of an endpoint mode that encodes them directly, without exchange
 abbrev pub in_order : (mode : ℕ) → List ℕ → List ℕ × List ℕ
 in_order mode values =
     if mode == 0 then luminance_direct (slice_index values) else
@@ -38,22 +39,24 @@ in_order mode values =
       slice_index values 1 ∷ slice_index values 3 ∷ slice_index values 5 ∷ 255 ∷ [],
     )
 
--- the sums of red, green and blue of both colours
+-- the sums of red, green and blue of the first and of the second colour
 abbrev pub first_sum : List ℕ → ℕ
 first_sum values = slice_index values 0 + slice_index values 2 + slice_index values 4
 
 abbrev pub second_sum : List ℕ → ℕ
 second_sum values = slice_index values 1 + slice_index values 3 + slice_index values 5
 
--- the value at a place from which on, and the value before which, the sums do not fall; the other
--- sums are these
+-- the range of values at `place`, from the first up to the second number (exclusive), with which
+-- the second colour has at least the sum of the first; `first` and `second` are the sums with 0 at
+-- `place`
 abbrev pub order_by_sums : (place first second : ℕ) → ℕ × ℕ
 order_by_sums place first second =
     if nat_le 6 place then (if nat_le first second then (0, 256) else (0, 0)) else
     if place % 2 == 0 then (0, second + 1 - first) else
     (first - second, 256)
 
--- from which value at a place on, and before which one, the ends are the two colours in order
+-- the range of values at `place`, from the first up to the second number (exclusive), with which
+-- the endpoints are the two colours in order
 abbrev pub order_of : (mode : ℕ) → List ℕ → (place : ℕ) → ℕ × ℕ
 order_of mode values place =
     if (mode == 0) || (mode == 4) then (0, 256) else
@@ -61,8 +64,8 @@ order_of mode values place =
     (second_sum (slice_set values place 0)) else
     (0, 0)
 
--- what the one channel that the values at a place move in a trend adds to the error of a part's
--- places with a value
+-- the share in the error of the one channel that the integer at `place` moves, with a value that
+-- has this trend
 abbrev pub single_channel_of : PartitionScan → Trend → (place value : ℕ) → ℕ
 single_channel_of scan trend place value = slice_index scan.tables.now.weights
     (moved_channel scan.cem place)
@@ -70,7 +73,8 @@ single_channel_of scan trend place value = slice_index scan.tables.now.weights
     (moved_ends trend scan.cem (slice_set scan.values place value) place).0
     (moved_ends trend scan.cem (slice_set scan.values place value) place).1) scan.reach.now
 
--- while the values are in a trend and move one channel, this is what it adds now
+-- `kept` is the present share in the error of the one channel that the integer moves while the
+-- values have this trend
 pub record IsSingleChannel (scan : PartitionScan) (trend : Trend) (place kept : ℕ) : Type 0 where
   pub within : kept ≤ scan.floor.taken
   pub moves : (value : ℕ)
@@ -78,7 +82,7 @@ pub record IsSingleChannel (scan : PartitionScan) (trend : Trend) (place kept : 
       → sum_by (coloured scan.tables.now (ends_of scan.cem scan.values place value))
       scan.reach.now + kept ≡ scan.floor.taken + single_channel_of scan trend place value
 
--- the form of a part without the channel that the values at a place move
+-- the form of a partition without the one channel that the integer at `place` moves
 pub record IsOthersForm (scan : PartitionScan) (trend : Trend) (place : ℕ)
     (others : Form) : Type 0 where
   pub small_more : others.more ≤ 2 ^ 61
@@ -97,7 +101,8 @@ pub record IsOthersForm (scan : PartitionScan) (trend : Trend) (place : ℕ)
       (moved_ends trend scan.cem (slice_set scan.values place value) place).0
       (moved_ends trend scan.cem (slice_set scan.values place value) place).1
 
--- the form of a part by the ends of the channel that the values at a place move
+-- the form of a partition as a function of the endpoints of the one channel that the integer at
+-- `place` moves
 pub record AreOthers (scan : PartitionScan) (trend : Trend) (place : ℕ)
     (others : OneChannel) : Type 0 where
   pub small : IsSmallOne others
@@ -112,7 +117,8 @@ pub record AreOthers (scan : PartitionScan) (trend : Trend) (place : ℕ)
       ≡ one_less others (moved_ends trend scan.cem (slice_set scan.values place value) place).0
       (moved_ends trend scan.cem (slice_set scan.values place value) place).1
 
--- the form of a part by the red, green and blue that the values at a place move
+-- the form of a partition as a function of the red, green and blue that the integer at `place`
+-- moves
 pub record AreThree (scan : PartitionScan) (place : ℕ) (three : ThreeChannels) : Type 0 where
   pub small : IsSmallThree three
   pub more_is : (value : ℕ)
@@ -128,7 +134,8 @@ pub record AreThree (scan : PartitionScan) (place : ℕ) (three : ThreeChannels)
       (moved_green scan.cem (slice_set scan.values place value) place)
       (moved_blue scan.cem (slice_set scan.values place value) place)
 
--- what says at which values at a place the form of a part is far
+-- the bounds hold for the integer at `place`: each of their parts gives the form, or a lower bound
+-- on it
 pub record AreValueBounds (scan : PartitionScan) (place : ℕ) (bounds : ValueBounds) : Type 0 where
   pub small_curve : IsSmallCurve bounds.curve
   pub on : (value : ℕ) → bounds.from ≤ value → value < bounds.before

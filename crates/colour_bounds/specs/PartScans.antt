@@ -1,4 +1,4 @@
--- The data of a partition while its colour integers are tried.
+-- The data of a partition while the values of its colour integers are tried.
 use Rattle.std.specs.Prelude.{◌≡◌, ℕ, ◌+◌, ◌*◌, ◌<◌, ◌≤◌, ◌^◌, length, take, slice_index, IsTrue}
 use Rattle.astc_model.specs.Changes.{Colour, with_integer}
 use Rattle.astc_model.specs.Shapes.{colour_count}
@@ -12,25 +12,25 @@ use Rattle.error_tables.specs.Kept.{IsKept}
 use Rattle.error_tables.specs.State.{StateView, view_of, error_in}
 use Rattle.colour_bounds.specs.declared.part_scan.PartitionScan.{PartitionScan}
 
--- what its tables stand for
+-- the state of the block that the tables describe
 abbrev pub state_of : PartitionScan → StateView
 state_of scan = view_of scan.tables.now
 
--- the colour integer at a place among those of a partition
+-- the index in the block of the colour integer at `place` of the partition
 abbrev pub integer_of : PartitionScan → ℕ → ℕ
 integer_of scan place = colour_count scan.part scan.tables.now.block.cems + place
 
--- the error of its block
+-- the present error of the block
 abbrev pub error_now : (w h : ℕ) → PartitionScan → ℕ
 error_now w h scan = error_in w h (state_of scan) (Coded scan.tables.now.block)
 
--- the error of the block with the colour integer at a place of the part at another value
+-- the error of the block with another value for the colour integer at `place`
 abbrev pub error_with : (w h : ℕ) → PartitionScan → (place value : ℕ) → ℕ
 error_with w h scan place value =
     error_in w h (state_of scan) (with_integer (Coded scan.tables.now.block) Colour
     (integer_of scan place) value)
 
--- the numbers are those of a part of the block and of its places
+-- the data belong to a partition of the block and to its inside places
 pub record IsPartScan (w h : ℕ) (scan : PartitionScan) : Type 0 where
   pub kept : IsKept w h scan.tables.now
   pub own : scan.part < scan.tables.now.block.parts

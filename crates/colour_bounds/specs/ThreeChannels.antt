@@ -1,4 +1,4 @@
--- Red, green and blue of one end, if the values at a place move all three and nothing else.
+-- Colour integers that move red, green and blue of one endpoint and nothing else.
 use Rattle.std.specs.Prelude.{ℕ, ◌+◌, ◌*◌, ◌/◌, ◌%◌, ◌≤◌, ◌^◌, ◌==◌, Bool, false, if◌then◌else◌, List, [], ◌∷◌, slice_index, pos, ◌+ℤ◌}
 use Rattle.std.specs.Int.{int_shr}
 use Rattle.astc_model.specs.Endpoints.{clamp_byte}
@@ -7,14 +7,15 @@ use Rattle.colour_bounds.specs.OneChannel.{is_scaling, is_exchanging, do_fall}
 use Rattle.colour_bounds.specs.declared.three_channels.OneEnd.{OneEnd}
 use Rattle.colour_bounds.specs.declared.three_channels.ThreeChannels.{ThreeChannels}
 
--- whether with these values the value at a place is the scale, or a blue of colours whose sums fall
+-- whether the integer at `place` moves red, green and blue of one endpoint only: it is the scale,
+-- or a blue value while the decoder exchanges the endpoints
 abbrev pub moves_three : (mode : ℕ) → List ℕ → ℕ → Bool
 moves_three mode values place =
     if is_scaling mode then place == 3 else
     if is_exchanging mode then (if place / 2 == 2 then do_fall mode values else false) else
     false
 
--- red, green and blue of the end that it moves
+-- red, green and blue of the endpoint that the integer moves
 abbrev pub moved_red : (mode : ℕ) → List ℕ → ℕ → ℕ
 moved_red mode values place =
     if is_scaling mode then slice_index values 0 * slice_index values 3 / 256 else
@@ -31,21 +32,22 @@ moved_blue mode values place =
     if is_scaling mode then slice_index values 2 * slice_index values 3 / 256 else
     clamp_byte (pos (slice_index values place))
 
--- ends with red, green and blue of the first one replaced, or of the second if the place is even
+-- the endpoints with red, green and blue of the first one replaced if `place` is odd, else those of
+-- the second
 abbrev pub with_colour_at : (place red green blue : ℕ) → List ℕ × List ℕ → List ℕ × List ℕ
 with_colour_at place red green blue ends =
     if place % 2 == 1
     then (red ∷ green ∷ blue ∷ channel 3 ends.0 ∷ [], ends.1)
     else (ends.0, red ∷ green ∷ blue ∷ channel 3 ends.1 ∷ [])
 
--- what a channel adds to the form by one end is end_more less end_less
+-- the term of a channel in the form, as a function of one endpoint, is `end_more` minus `end_less`
 abbrev pub end_more : OneEnd → ℕ → ℕ
 end_more one end = one.square * (end * end) + one.slope * end
 
 abbrev pub end_less : OneEnd → ℕ → ℕ
 end_less one end = one.less_slope * end
 
--- with these channels the form is three_more less three_less
+-- the form with these three channels is `three_more` minus `three_less`
 abbrev pub three_more : ThreeChannels → (red green blue : ℕ) → ℕ
 three_more three red green blue =
     end_more three.red red + end_more three.green green + end_more three.blue blue + three.start
@@ -55,7 +57,7 @@ three_less three red green blue =
     end_less three.red red + end_less three.green green + end_less three.blue blue
     + three.less_start
 
--- their numbers are those of a form of a part
+-- the coefficients are within the ranges of the forms of partitions
 pub record IsSmallEnd (one : OneEnd) : Type 0 where
   pub small_square : one.square ≤ 2 ^ 41
   pub small_slope : one.slope ≤ 255 * 2 ^ 41

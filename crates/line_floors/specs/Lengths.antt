@@ -1,4 +1,5 @@
--- The numbers of a partition's line, and the distance of the partition's texels from it.
+-- The line through the endpoints of a partition, and the squared distance of the partition's texels
+-- from it.
 use Rattle.std.specs.Prelude.{ℕ, ◌+◌, ◌-◌, ◌*◌, ◌/◌, ◌<◌, ◌≤◌, max, List, [], ◌∷◌, slice_index, ℤ, pos, neg_ℤ, ◌+ℤ◌, ◌-ℤ◌, ◌*ℤ◌}
 use Rattle.std.specs.Int.RustNames.{unsigned_abs}
 use Rattle.std.specs.List.{All}
@@ -12,7 +13,7 @@ use Rattle.line_floors.specs.declared.part_sums.PartitionSums.{PartitionSums}
 use Rattle.line_floors.specs.declared.line.Slopes.{Slopes}
 use Rattle.line_floors.specs.declared.line.PartitionLine.{PartitionLine}
 
--- a colour, as the mixes count it
+-- a colour with each channel multiplied by `scale`
 abbrev pub scaled : Flavour → Texel → List ℕ
 scaled flavour colour =
     scale flavour * channel 0 colour ∷ scale flavour * channel 1 colour
@@ -23,7 +24,7 @@ abbrev pub doubled : List ℕ → List ℕ
 doubled values = 2 * slice_index values 0 ∷ 2 * slice_index values 1 ∷ 2 * slice_index values 2
     ∷ 2 * slice_index values 3 ∷ []
 
--- the rise of a channel from one colour to another, times the weight of the channel
+-- the difference of two colours in a channel, times the weight of the channel
 abbrev pub slope : (gain from to : ℕ) → ℤ
 slope gain from to = pos gain *ℤ (pos to -ℤ pos from)
 
@@ -35,13 +36,13 @@ slopes_of gains from to = record {
   alpha = slope (slice_index gains 3) (slice_index from 3) (slice_index to 3);
 }
 
--- the sum of the products of four channels
+-- the scalar product of the slopes with four channels
 abbrev pub dot : Slopes → List ℕ → ℤ
 dot slopes values =
     slopes.red *ℤ pos (slice_index values 0) +ℤ slopes.green *ℤ pos (slice_index values 1)
     +ℤ slopes.blue *ℤ pos (slice_index values 2) +ℤ slopes.alpha *ℤ pos (slice_index values 3)
 
--- the squared length of the line
+-- the squared length of the line in bytes, each channel with its weight
 abbrev pub length_of : (gains first second : List ℕ) → ℕ
 length_of gains first second =
     slice_index gains 0 * squared_difference (slice_index second 0) (slice_index first 0)
@@ -49,8 +50,8 @@ length_of gains first second =
     + slice_index gains 2 * squared_difference (slice_index second 2) (slice_index first 2)
     + slice_index gains 3 * squared_difference (slice_index second 3) (slice_index first 3)
 
--- the line from a first colour, which meets the targets `starts`, to a second; its length is at
--- least 1
+-- the line from a first colour, which is `starts` in the units of targets, to a second; its length
+-- is at least 1
 abbrev pub line_from : (gains starts first second : List ℕ) → PartitionLine
 line_from gains starts first second = record {
   gains = gains;
@@ -60,13 +61,13 @@ line_from gains starts first second = record {
   length = max (length_of gains first second) 1;
 }
 
--- the line through the two colours of a partition
+-- the line through the two endpoints of a partition
 unfoldable pub line_of : Flavour → (gains : List ℕ) → Ends → PartitionLine
 line_of flavour gains ends = line_from gains (doubled (scaled flavour ends.0)) ends.0 ends.1
 
--- ---- over the sums of some texels
+-- ---- sums over the texels of a partition
 
--- the squared distances from the first colour are more_of less less_of
+-- the squared distances of the texels from the first endpoint are `more_of` minus `less_of`
 abbrev pub more_of : PartitionLine → PartitionSums → ℕ
 more_of line part_sums =
     slice_index line.gains 0 * (slice_index line.starts 0 * slice_index line.starts
@@ -86,13 +87,13 @@ less_of line part_sums =
     + slice_index line.gains 2 * (slice_index line.starts 2 * slice_index part_sums.sums 2)
     + slice_index line.gains 3 * (slice_index line.starts 3 * slice_index part_sums.sums 3))
 
--- the sum of the line's linear function over some texels, or of its products with their targets in
--- a channel
+-- the sum of the line's linear function over the texels, or of its products with the targets of a
+-- channel
 abbrev pub sum_of : PartitionLine → (count : ℕ) → (values : List ℕ) → ℤ
 sum_of line count values = line.constant *ℤ pos count +ℤ dot line.slopes values
 
--- the sum of its squares: the reduction of the squared distances by the best weights, times the
--- line's length
+-- the sum of the squares of the linear function: the reduction of the squared distances by the best
+-- weights, times the line's length
 abbrev pub squares_of : PartitionLine → PartitionSums → ℤ
 squares_of line part_sums =
     line.constant *ℤ sum_of line part_sums.count part_sums.sums
@@ -101,22 +102,22 @@ squares_of line part_sums =
     +ℤ line.slopes.blue *ℤ sum_of line (slice_index part_sums.sums 2) part_sums.blue
     +ℤ line.slopes.alpha *ℤ sum_of line (slice_index part_sums.sums 3) part_sums.alpha)
 
--- the squared distances from the line, in squares of 1/8
+-- the squared distances of the texels from the line, in units of 1/64
 unfoldable pub distance_of : PartitionLine → PartitionSums → ℕ
 distance_of line part_sums =
     (more_of line part_sums - less_of line part_sums) / 4096
     - (unsigned_abs (squares_of line part_sums) / 4096 / line.length + 1)
 
--- ---- how large they are
+-- ---- ranges
 
--- of a line between colours of 8 bits, with channels that count up to 15
+-- the slopes are within the ranges for bytes and weights of at most 15
 pub record AreSmallSlopes (slopes : Slopes) : Type 0 where
   pub small_red : unsigned_abs slopes.red ≤ 3825
   pub small_green : unsigned_abs slopes.green ≤ 3825
   pub small_blue : unsigned_abs slopes.blue ≤ 3825
   pub small_alpha : unsigned_abs slopes.alpha ≤ 3825
 
--- the numbers of such a line are within their ranges
+-- the numbers of a line are within their ranges
 pub record IsSmallLine (line : PartitionLine) : Type 0 where
   pub small_gains : All (λ gain. gain ≤ 15) line.gains
   pub small_starts : All (λ start. start ≤ 131070) line.starts

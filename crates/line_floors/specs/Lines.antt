@@ -1,4 +1,4 @@
--- Blocks of given colours.
+-- Blocks with given endpoints.
 use Rattle.std.specs.Prelude.{◌≡◌, ℕ, ◌*◌, ◌/◌, ◌%◌, ◌<◌, List, slice_index, slice_index_or}
 use Rattle.astc_model.specs.Partitions.{part_of}
 use Rattle.astc_model.specs.Candidates.{Ends, no_ends}
@@ -8,8 +8,9 @@ use Rattle.astc_model.specs.declared.mode.Mode.{Mode}
 use Rattle.astc_model.specs.declared.block.Coded.{Coded as CodedFields}
 use Rattle.texel_error.specs.Shaped.{IsShaped}
 
--- a legal block of w by h texels has these colours: `parts` is the partition of each place, `ends`
--- the two colours of each partition, and `component` the channel of its second plane
+-- a legal block of w by h texels has these colours: `parts` has the partition of each place, `ends`
+-- the two endpoints of each partition, and `component` is the channel of the second plane, 1 to 4,
+-- or 0
 pub record HasColours (w h component : ℕ) (parts : List ℕ) (ends : List Ends)
     (coded : CodedFields) : Type 0 where
   pub mode : Mode

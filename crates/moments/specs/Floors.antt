@@ -1,5 +1,5 @@
--- Floors of the error of some texels: what the kept moments of their weights and of the source say
--- without a look at them.
+-- Floors: lower bounds on the error of a set of texels with any given endpoints, computed from sums
+-- over the texels (moments) only.
 use Rattle.std.specs.Prelude.{◌≡◌, ℕ, ◌+◌, ◌-◌, ◌*◌, ◌/◌, ◌^◌, ◌<◌, ◌≤◌, List, slice_index}
 use Rattle.astc_model.specs.Sums.{sum_to}
 use Rattle.astc_model.specs.Errors.{squared_difference}
@@ -8,42 +8,42 @@ use Rattle.moments.specs.declared.Widening.{Widening}
 use Rattle.moments.specs.declared.Moments.{Moments}
 use Rattle.moments.specs.declared.Widening.TheVariants.{Repeated, Centred}
 
--- a colour's channel of 8 bits, widened to 16
+-- an endpoint channel of 8 bits, widened to 16 bits
 abbrev pub widened_by : Widening → ℕ → ℕ
 widened_by Repeated value = 257 * value
 widened_by Centred value = 256 * value + 128
 
--- the channel that a texel of this weight shows
+-- the decoded byte of a channel at a texel with this weight
 abbrev pub shown : Widening → (first second weight : ℕ) → ℕ
 shown widening first second weight = mixed (widened_by widening first)
     (widened_by widening second) weight / 256
 
--- the factor of a value in the shown byte, before rounding
+-- the factor of an endpoint byte in the widened channel
 abbrev pub factor_of : Widening → ℕ
 factor_of Repeated = 257
 factor_of Centred = 256
 
--- what is shown in units of 2^-14, before it is rounded and except for the shift
+-- the interpolation of two channels, multiplied by 64, without rounding
 abbrev pub blend : (first second weight : ℕ) → ℕ
 blend first second weight = first * (64 - weight) + second * weight
 
--- the blend that shows a channel of the source
+-- the blend from which rounding gives the byte of the source, about the middle of all such blends
 abbrev pub target : Widening → ℕ → ℕ
 target Repeated wanted = 16384 * wanted + 8160
 target Centred wanted = 16384 * wanted
 
--- the distance of two numbers
+-- the absolute difference of two numbers
 abbrev pub apart : ℕ → ℕ → ℕ
 apart a b = (a - b) + (b - a)
 
--- the error of one channel of some texels
+-- the error of one channel over n texels
 unfoldable pub channel_error : Widening → (first second : ℕ) → (weights wanted : List ℕ) → ℕ → ℕ
 channel_error widening first second weights wanted n =
     sum_to (λ i. squared_difference (shown widening first second (slice_index weights i))
     (slice_index wanted i)) n
 
--- the moments of some texels in one channel: the sums of squares and products of the weights, of
--- what they leave to 64, and of the targets
+-- the moments of n texels in one channel: the sums of the squares and products of the weights w, of
+-- 64 - w, and of the targets
 pub record IsMoments (widening : Widening) (weights wanted : List ℕ) (n : ℕ)
     (moments : Moments) : Type 0 where
   pub first_squares : moments.first_squares
@@ -60,7 +60,7 @@ pub record IsMoments (widening : Widening) (weights wanted : List ℕ) (n : ℕ)
       ≡ sum_to (λ i. target widening (slice_index wanted i) * target widening
       (slice_index wanted i)) n
 
--- the moments are those of at most 144 texels
+-- the moments are within the ranges of those of 144 texels
 pub record AreSmall (moments : Moments) : Type 0 where
   pub first_squares_fit : moments.first_squares < 2 ^ 20
   pub products_fit : moments.products < 2 ^ 20
@@ -69,7 +69,7 @@ pub record AreSmall (moments : Moments) : Type 0 where
   pub second_targets_fit : moments.second_targets < 2 ^ 36
   pub target_squares_fit : moments.target_squares < 2 ^ 52
 
--- how large the moments of n texels are
+-- the moments are within the ranges of those of n texels
 pub record IsWithin (n : ℕ) (moments : Moments) : Type 0 where
   pub first_squares_within : moments.first_squares ≤ 4096 * n
   pub products_within : moments.products ≤ 4096 * n
@@ -78,7 +78,7 @@ pub record IsWithin (n : ℕ) (moments : Moments) : Type 0 where
   pub second_targets_within : moments.second_targets ≤ 267909120 * n
   pub target_squares_within : moments.target_squares ≤ 17523265766400 * n
 
--- the form at two scaled ends is more_of less less_of
+-- the form at two endpoints, in the units of `factor_of`, is `more_of` minus `less_of`
 abbrev pub more_of : Moments → (first second : ℕ) → ℕ
 more_of moments first second =
     first * first * moments.first_squares + 2 * (first * second * moments.products) + second
@@ -87,8 +87,8 @@ more_of moments first second =
 abbrev pub less_of : Moments → (first second : ℕ) → ℕ
 less_of moments first second = 2 * (first * moments.first_targets + second * moments.second_targets)
 
--- a sum of squares, more without less, that is known to bound an error e whose texels and channels
--- count w in all
+-- the form, more - less, is a lower bound on the error e, except for rounding; w is the sum of the
+-- channel weights over all texels
 pub record IsFloored (more less e w : ℕ) : Type 0 where
   pub form : ℕ
   pub distance : ℕ
@@ -96,7 +96,7 @@ pub record IsFloored (more less e w : ℕ) : Type 0 where
   pub moved : form ≤ 2 ^ 26 * (4 * e + 4 * distance + w)
   pub spread : (p t : ℕ) → 2 * (p * (t * distance)) ≤ t * t * e + p * p * w
 
--- a form of at least this says that the error is at least the limit
+-- a form of at least `most` implies that the error is at least the limit
 pub record IsMost (most limit w : ℕ) : Type 0 where
   pub root : ℕ
   pub covered : w * limit ≤ root * root
@@ -106,7 +106,7 @@ pub record IsMost (most limit w : ℕ) : Type 0 where
 abbrev pub AreWeights : List ℕ → ℕ → Type 0
 AreWeights weights n = (i : ℕ) → i < n → slice_index weights i ≤ 64
 
--- the moments of no texel, and of one texel more
+-- the moments of an empty set of texels
 abbrev pub no_moments : Moments
 no_moments = record {
   first_squares = 0;
@@ -117,7 +117,8 @@ no_moments = record {
   target_squares = 0;
 }
 
--- `second` is the texel's weight, `first` what it leaves to 64, and `aim` its target
+-- the moments after a texel is added: `second` is its weight, `first` is 64 minus this, `aim` is
+-- its target
 abbrev pub with_texel : Moments → (first second aim : ℕ) → Moments
 with_texel m first second aim = record {
   first_squares = m.first_squares + first * first;

@@ -1,4 +1,4 @@
--- The texels that a decoded block shows.
+-- The texels of a prepared block (`Decoded`).
 use Rattle.std.specs.Prelude.{◌≡◌, ℕ, ◌*◌, ◌/◌, ◌%◌, ◌<◌, ◌≤◌, List, [], Option, None, length, slice_index, slice_index_or}
 use Rattle.std.specs.List.{All}
 use Rattle.astc_model.specs.declared.flavour.Flavour.{Flavour}
@@ -14,47 +14,47 @@ use Rattle.texel_error.specs.Shown.{Ends, shown_texel, plane_at}
 use Rattle.texel_error.specs.Numerators.{numerator, rounded}
 use Rattle.texel_error.specs.declared.decoded.Decoded.{Decoded}
 
--- the texel of ends and numerators of both planes, if the second plane has the channel before this
--- number
+-- the texel between two endpoints; `numerators` has the weights of both planes in sixteenths, and
+-- `plane` is the channel of the second plane, 1 to 4, or 0
 unfoldable pub shown_of : Flavour → ℕ → Ends → List ℕ → Texel
 shown_of flavour plane ends numerators =
     shown_texel flavour ends (λ c. rounded (slice_index numerators (plane_at plane c)))
 
--- the ends of a place's part
+-- the endpoints of the partition of place p
 abbrev pub ends_at : Decoded → ℕ → Ends
 ends_at decoded p = slice_index_or decoded.ends (slice_index decoded.parts p) ([], [])
 
--- the numerators of a place in both planes
+-- the weights of place p in both planes, in sixteenths
 abbrev pub numerators_at : Decoded → ℕ → List ℕ
 numerators_at decoded p = slice_index_or decoded.numerators p []
 
--- the texel of a place
+-- the texel of place p
 abbrev pub shown_at : Decoded → ℕ → Texel
 shown_at decoded p = shown_of decoded.flavour decoded.plane (ends_at decoded p)
     (numerators_at decoded p)
 
--- its error
+-- the error of place p
 abbrev pub error_of_place : Decoded → List ℕ → List (Option Texel) → ℕ → ℕ
 error_of_place decoded weights places p = place_error weights (shown_at decoded p)
     (slice_index_or places p None)
 
--- the numbers are within their ranges
+-- all numbers are within their ranges
 pub record IsSound (decoded : Decoded) : Type 0 where
   pub part_numbers : All (λ part. part < 4) decoded.parts
   pub small_numerators : All (λ pair. All (λ n. n ≤ 1024) pair) decoded.numerators
   pub all_parts : length decoded.parts ≡ 144
   pub all_numerators : length decoded.numerators ≡ 144
 
--- each place shows what the block shows
+-- each place has the texel that the block has there
 pub record Shows (w h : ℕ) (flavour : Flavour) (block : Block) (decoded : Decoded) : Type 0 where
   pub at : (p : ℕ) → p < w * h → shown_at decoded p ≡ texel w h flavour block (p % w) (p / w)
 
--- the numerator of a plane's weight in the place p
+-- the weight of place p in a plane of the block, in sixteenths
 abbrev pub numerator_at : (w h : ℕ) → CodedFields → Mode → (plane p : ℕ) → ℕ
 numerator_at w h coded mode plane p = numerator w h mode.across mode.down (p % w) (p / w)
     (plane_weights coded mode plane)
 
--- the numerators of a coded block's places in both planes
+-- the list has the weights of each place of a coded block in both planes, in sixteenths
 pub record AreNumerators (w h : ℕ) (coded : CodedFields) (mode : Mode)
     (numerators : List (List ℕ)) : Type 0 where
   pub small : All (λ pair. All (λ n. n ≤ 1024) pair) numerators
@@ -63,7 +63,7 @@ pub record AreNumerators (w h : ℕ) (coded : CodedFields) (mode : Mode)
   pub exact : (p plane : ℕ) → p < w * h → plane < mode.planes
       → slice_index (slice_index_or numerators p []) plane ≡ numerator_at w h coded mode plane p
 
--- a coded block, taken apart
+-- the values are those of a coded block, prepared for decoding
 pub record IsDecoded (w h : ℕ) (flavour : Flavour) (coded : CodedFields) (mode : Mode)
     (level : Level) (decoded : Decoded) : Type 0 where
   pub sound : IsSound decoded

@@ -1,4 +1,5 @@
--- A legal block with its mode, its colour level and what follows from them for the code.
+-- A legal block with its decoded mode and its level of colour integers, and what follows for the
+-- code.
 use Rattle.std.specs.Prelude.{◌≡◌, ℕ, ◌*◌, ◌<◌, ◌≤◌, length, slice_index, IsTrue}
 use Rattle.std.specs.List.{All}
 use Rattle.astc_model.specs.Footprints.{is_footprint}

@@ -1,11 +1,11 @@
--- The four points of a grid around each texel, in a table
--- (Khronos Data Format Specification, ASTC, "Weight Infill").
+-- A table of the four grid points around each texel (Khronos Data Format Specification, ASTC,
+-- "Weight Infill").
 use Rattle.std.specs.Prelude.{◌≡◌, ℕ, ◌/◌, ◌%◌, ◌<◌, ◌≤◌, List, [], length, slice_index_or, IsTrue}
 use Rattle.astc_model.specs.Footprints.{is_footprint}
 use Rattle.astc_model.specs.Infill.{factors}
 
--- the grid is one of n by m points in blocks of w by h texels, and each of the first `places`
--- places has the points around its texel
+-- the table is for a grid of n by m points in blocks of w by h texels, and has the points with
+-- their factors for the first `places` places
 pub record AreAround (w h n m places : ℕ) (around : List (List (ℕ × ℕ))) : Type 0 where
   pub sides : IsTrue (is_footprint w h)
   pub some_columns : 2 ≤ n
