@@ -1,15 +1,15 @@
--- Laws of fields of a block.
+-- Laws of the fields of a block.
 use Rattle.std.proofs.Common.{◌≡◌, ℕ, zero, suc, ◌+◌, ◌*◌, ◌/◌, ◌%◌, ◌^◌, ◌<◌, ◌≤◌, refl, sym, ◌∙◌, ap, arith, add-one, add-zero, add_assoc}
 use Rattle.std.specs.Int.{bit_at}
 use Rattle.std.proofs.lemmas.Nat.{pow_pos, mod-pow-add, shr-shr, mod_below}
 use Rattle.std.proofs.lemmas.Nat.Bits.{bit_at_lowest, bit_at-suc, bit_at-lt}
 use Rattle.astc_model.specs.Bits.{field_of}
 
--- the low suc n bits are the lowest and the low n bits of the half
+-- the low n + 1 bits of a number are its lowest bit and the low n bits of its half
 low_bits-suc : (b n : ℕ) → b % 2 ^ suc n ≡ b % 2 + 2 * (b / 2 % 2 ^ n)
 low_bits-suc b n = rw (← add-one n) (omega (arith, mod-pow-add b n 1))
 
--- a field is the quotient's remainder
+-- a field is the remainder of a quotient: b / 2 ^ k modulo 2 ^ n
 pub field_of-is : (b k n : ℕ) → field_of b k n ≡ b / 2 ^ k % 2 ^ n
 unfolding field_of
 field_of-is b k zero = omega arith
@@ -25,7 +25,7 @@ field_of-is b k (suc n) =
 pub field_of-lt : (b k n : ℕ) → field_of b k n < 2 ^ n
 field_of-lt b k n = rw (field_of-is b k n) (mod_below (b / 2 ^ k) (2 ^ n) (pow_pos n))
 
--- numbers with the same bits in a place have the same field there
+-- two numbers with the same bits at two positions have the same field there
 pub field_of-same : (a b j k n : ℕ) → ((i : ℕ) → i < n → bit_at a (j + i) ≡ bit_at b (k + i))
     → field_of a j n ≡ field_of b k n
 unfolding field_of
@@ -54,7 +54,7 @@ bit_at-field_of b k (suc n) (suc i) lt =
     (omega arith)
     ∙ ap (λ x. bit_at b x) place
 
--- a field of a field is a field
+-- a field of a field of a block is a field of the block
 pub field_of-field_of : (b k m j n : ℕ) → j + n ≤ m → field_of (field_of b k m) j n
     ≡ field_of b (k + j) n
 field_of-field_of b k m j n within =

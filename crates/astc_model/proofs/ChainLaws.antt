@@ -5,7 +5,7 @@ use Rattle.std.proofs.Math.Nat.{pow-suc, pow-le-pow_right}
 use Rattle.std.proofs.lemmas.Bool.{cases_lt, le-leb, lt-leb}
 use Rattle.astc_model.specs.Chains.{exponent_below}
 
--- an exponent whose power is at most n, if the next one's is not, is the greatest
+-- an exponent r with 2 ^ r at most n and 2 ^ (r + 1) above n is the greatest
 pub exponent_below-is : (k n r : ℕ) → r ≤ k → 2 ^ r ≤ n → n < 2 * 2 ^ r → exponent_below k n ≡ r
 exponent_below-is zero n r most le lt = omega arith
 exponent_below-is (suc k) n r most le lt =
@@ -21,7 +21,7 @@ exponent_below-is (suc k) n r most le lt =
           rw test (sym same)
     ]
 
--- the exponent of a number of at most 8,192
+-- a number of at most 8,192 has an exponent of at most 13
 pub exponent_small : (n r : ℕ) → n ≤ 8192 → 2 ^ r ≤ n → r ≤ 13
 exponent_small n r small le =
     elim (cases_lt 13 r) [

@@ -1,4 +1,4 @@
--- The bytes of a constant block read as that block.
+-- The encoding of a void-extent block is decoded to that block.
 use Rattle.std.proofs.Common.{◌≡◌, ℕ, ◌^◌, ◌<◌, List, [], ◌∷◌, length, Ok, get_or, take, lit<, refl, ◌∙◌, ap, arith}
 use Rattle.astc_model.specs.Bits.{field_of, number_of}
 use Rattle.astc_model.specs.Packing.{packed, total_width, AllFit}
@@ -6,7 +6,8 @@ use Rattle.astc_model.specs.Blocks.{constant_of}
 use Rattle.astc_model.specs.Reading.{read, read_bits, constant_block_bytes}
 use Rattle.astc_model.proofs.PackingLaws.{field_of-packed}
 
--- class bits, profile bit, reserved bits, four coordinates, four values
+-- the widths of the fields: nine bits 0x1FC, the profile bit, two reserved bits, four coordinates,
+-- four values
 widths : List ℕ
 widths = 9 ∷ 1 ∷ 2 ∷ 13 ∷ 13 ∷ 13 ∷ 13 ∷ 16 ∷ 16 ∷ 16 ∷ 16 ∷ []
 
@@ -18,7 +19,7 @@ number_of-constant : (r g b a : ℕ) → r < 2 ^ 16 → g < 2 ^ 16 → b < 2 ^ 1
 unfolding packed widths values
 number_of-constant r g b a r_fits g_fits b_fits a_fits = omega arith
 
--- a number with these fields is read as that constant
+-- a number with these fields is decoded to the void-extent block with these values
 read_bits_of_fields : (w h z r g b a : ℕ) → field_of z 0 9 ≡ 0x1FC → field_of z 9 1 ≡ 0
     → field_of z 10 2 ≡ 3
     → field_of z 12 13 ≡ 8191 → field_of z 25 13 ≡ 8191 → field_of z 38 13 ≡ 8191 → field_of z 51 13
@@ -65,7 +66,7 @@ module _ (r g b a : ℕ) (r_fits : r < 2 ^ 16) (g_fits : g < 2 ^ 16) (b_fits : b
       (field 6 (lit< tt)) (field 7 (lit< tt)) (field 8 (lit< tt)) (field 9 (lit< tt))
       (field 10 (lit< tt))
 
--- a list of four is its four entries
+-- a list of length 4 consists of its four entries
 pub four_entries : (xs : List ℕ) → length xs ≡ 4 → xs ≡ get_or xs 0 0 ∷ get_or xs 1 0
     ∷ get_or xs 2 0 ∷ get_or xs 3 0 ∷ []
 four_entries (a ∷ b ∷ c ∷ d ∷ []) e = refl

@@ -1,4 +1,4 @@
--- The error of a constant block: the sum over its channels, least for the mean.
+-- The error of a void-extent block is a sum over its channels, and is least for the mean.
 use Rattle.std.proofs.Common.{◌≡◌, ℕ, zero, suc, ◌+◌, ◌*◌, ◌/◌, ◌^◌, ◌<◌, ◌≤◌, List, [], ◌∷◌, length, get_or, take, set, map, add-one, refl, sym, ◌∙◌, ap, arith}
 use Rattle.std.specs.Prelude.{Option, None, Some, sum_by}
 use Rattle.std.proofs.lemmas.List.Sums.{sum_by-cons, sum_by_more}
@@ -20,7 +20,7 @@ use Rattle.astc_model.specs.Weights.{Weighting}
 use Rattle.astc_model.specs.Errors.{place_error, error}
 use Rattle.astc_model.proofs.MeanLaws.{square_at, squares, mean_is_least}
 
--- a sum by places is a sum over the list
+-- a sum over indices is a sum over the list
 pub sum_to-sum_by : {X : Type 0} (f : X → ℕ) (xs : List X) (d : X) (n : ℕ) → n ≤ length xs
     → sum_to (λ p. f (get_or xs p d)) n ≡ sum_by f (take n xs)
 unfolding sum_to
@@ -30,7 +30,7 @@ sum_to-sum_by f xs d (suc n) within =
     sum_to-sum_by f xs d n (omega arith) in
     omega (arith, before, rw (add-one n) at (sum_by_more f xs n d (omega arith)))
 
--- the error of a place by channels
+-- the error of a place as a sum over the channels
 place_error-is : (weights : Weighting) (shown : Texel) (place : Option Texel)
     → place_error weights shown place
     ≡ get_or weights 0 0 * square_at (channel 0 shown) 0 place + get_or weights 1 0 * square_at
@@ -41,7 +41,7 @@ unfolding square_at sum_to
 place_error-is weights shown None = omega arith
 place_error-is weights shown (Some wanted) = omega arith
 
--- over plain numbers: one place more
+-- an equation of sums after one more place
 more : (w x y z a b c d a_rest b_rest c_rest d_rest a_all b_all c_all d_all e e_rest e_all : ℕ)
     → a_all ≡ a + a_rest → b_all ≡ b + b_rest → c_all ≡ c + c_rest → d_all ≡ d + d_rest → e_all
     ≡ e + e_rest
@@ -51,7 +51,7 @@ more w x y z a b c d a_rest b_rest c_rest d_rest a_all b_all c_all d_all e e_res
     c_is d_is e_is first rest =
     rw (a_is, b_is, c_is, d_is, e_is) (omega (arith, first, rest))
 
--- the error of a constant by channels
+-- the error of one texel value against all places as a sum over the channels
 channels : (weights : Weighting) (shown : Texel) (places : List (Option Texel))
     → sum_by (place_error weights shown) places
     ≡ get_or weights 0 0 * squares (channel 0 shown) 0 places + get_or weights 1 0 * squares
@@ -70,7 +70,7 @@ channels weights shown (place ∷ places) =
     (sum_by-cons (place_error weights shown) place places)
     (place_error-is weights shown place) (channels weights shown places)
 
--- the mean of each channel has the least error of all constants
+-- the texel of the means has the least error of all texel values
 mean_below : (weights : Weighting) (shown : Texel) (places : List (Option Texel))
     → sum_by (place_error weights (channel_mean places 0 ∷ channel_mean places 1
     ∷ channel_mean places 2 ∷ channel_mean places 3 ∷ [])) places
@@ -95,7 +95,7 @@ mean_below weights shown places =
       alpha,
     )
 
--- the error of a constant block is that of its one texel
+-- the error of a void-extent block is that of its one texel value at all places
 pub error-constant : (w h : ℕ) (flavour : Flavour) (weights : Weighting) (constant : ConstantFields)
     (places : List (Option Texel))
     → length places ≡ w * h → error w h flavour weights (Constant constant) places
@@ -107,18 +107,18 @@ error-constant w h flavour weights constant places full =
     ∙ sum_to-sum_by (place_error weights shown) places None (length places) (omega arith)
     ∙ ap (λ ps. sum_by (place_error weights shown) ps) (take-length places)
 
--- the top byte of a widened mean that fits 16 bits
+-- the high byte of a mean that is widened to 16 bits is the mean
 top_byte : (m : ℕ) → 257 * m < 2 ^ 16 → 257 * m / 256 ≡ m
 top_byte m small = omega arith
 
--- four values that fit 16 bits each
+-- four values below 2 ^ 16
 pub record FitsWide (values : List ℕ) : Type 0 where
   pub red : get_or values 0 0 < 2 ^ 16
   pub green : get_or values 1 0 < 2 ^ 16
   pub blue : get_or values 2 0 < 2 ^ 16
   pub alpha : get_or values 3 0 < 2 ^ 16
 
--- no constant block has a smaller error than the mean constant, whatever the channels count
+-- for all channel weights, no void-extent block has a smaller error than that of the mean
 pub mean_block_is_least : (w h : ℕ) (flavour : Flavour) (weights : Weighting)
     (constant : ConstantFields) (places : List (Option Texel))
     → length places ≡ w * h → FitsWide (mean_values places)
@@ -153,7 +153,7 @@ mean_block_is_least w h flavour weights constant places full fits =
           (map (λ value. value / 256) constant.rgba) places,
     )
 
--- a constant block of four values of 16 bits is legal
+-- a void-extent block with four values below 2 ^ 16 is legal
 legal_constant : (w h r g b a : ℕ) → r < 2 ^ 16 → g < 2 ^ 16 → b < 2 ^ 16 → a < 2 ^ 16
     → Legal w h (constant_of (r ∷ g ∷ b ∷ a ∷ []))
 legal_constant w h r g b a r_fits g_fits b_fits a_fits = record {
@@ -170,8 +170,7 @@ legal_constant w h r g b a r_fits g_fits b_fits a_fits = record {
   order = refl;
 }
 
--- no other value in a place of the mean constant gives a smaller error, and it has integers of no
--- other kind
+-- no change of a value of the mean's block gives a smaller error; the block has no other integers
 no_integer_is_better : (w h : ℕ) (flavour : Flavour) (weights : Weighting)
     (places : List (Option Texel)) (kind : IntegerKind) (at value : ℕ)
     → length places ≡ w * h → FitsWide (mean_values places)
@@ -186,7 +185,7 @@ no_integer_is_better w h flavour weights places Colour at value full fits within
 no_integer_is_better w h flavour weights places Weight at value full fits within =
     absurd (omega arith)
 
--- the mean constant is settled if nothing listed has a smaller error
+-- the block of the mean is settled if no listed block has a smaller error
 mean_is_settled : (w h : ℕ) (flavour : Flavour) (weights : Weighting) (preset : Preset)
     (places : List (Option Texel))
     → length places ≡ w * h → FitsWide (mean_values places)
@@ -203,14 +202,14 @@ mean_is_settled w h flavour weights preset places full fits none = record {
       differs.0.value full fits differs.1.place);
 }
 
--- flat lists it alone
+-- the preset flat lists only the block of the mean
 none_under_flat : (w h : ℕ) (flavour : Flavour) (weights : Weighting) (places : List (Option Texel))
     → NoneUnder w h flavour weights places (error w h flavour weights (mean_block places) places)
     (listed w h Flat places)
 unfolding listed recipes groups
 none_under_flat w h flavour weights places = (omega arith, tt)
 
--- the same of values that are the means
+-- the laws above for values that equal the means
 module _ (w h : ℕ) (flavour : Flavour) (weights : Weighting) (places : List (Option Texel))
     (values : List ℕ)
     (same : values ≡ mean_values places) (full : length places ≡ w * h)

@@ -1,4 +1,4 @@
--- The entries of partitions that a block has or lacks.
+-- Entries for partitions that a block has or does not have.
 use Rattle.std.proofs.Common.{◌≡◌, ℕ, ◌<◌, ◌≤◌, refl}
 use Rattle.std.proofs.lemmas.Bool.{lt-ltb, le-ltb}
 use Rattle.astc_model.specs.Fields.{if_part}

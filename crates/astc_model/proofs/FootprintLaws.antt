@@ -1,4 +1,5 @@
--- A property that a test finds true for all fourteen footprints holds for each; sides are 4 to 12.
+-- A property that a test finds true for all fourteen footprints holds for every footprint; sides
+-- are 4 to 12.
 use Rattle.std.proofs.Common.{◌≡◌, ℕ, ◌*◌, ◌/◌, ◌%◌, ◌<◌, ◌≤◌, ◌==◌, ◌&&◌, Bool, true, false, IsTrue, nat_le, refl, List, [], ◌∷◌, mod-lt, arith, inl, inr, mul-le-mul}
 use Rattle.std.proofs.Math.Nat.{mul-le-mul_left}
 use Rattle.std.proofs.lemmas.Bool.{cases_lt, eqb-true, leb-true}
@@ -9,7 +10,7 @@ both_true : (a b : Bool) → (a && b) ≡ true → (a ≡ true) × (b ≡ true)
 both_true true b e = (refl, e)
 both_true false b e = cc
 
--- whether the first pair of sides is w by h, or one of the rest
+-- w by h is the first pair of sides or one of the rest
 first_or_rest : (test : ℕ → ℕ → Bool) (w h : ℕ) (first : ℕ × ℕ) (rest : List (ℕ × ℕ)) (b : Bool)
     → (first.0 == w && first.1 == h) ≡ b
     → IsTrue (test first.0 first.1 && list_all (λ sides. test sides.0 sides.1) rest)
@@ -33,7 +34,8 @@ listed_passes test w h (first ∷ rest) all listed =
     (both_true (test first.0 first.1) (list_all (λ sides. test sides.0 sides.1) rest)
     all).1) listed
 
--- what a test finds true of all fourteen holds of each: the first premise is mostly `refl`
+-- a test that is true for all fourteen footprints is true for every footprint; the first premise is
+-- usually `refl`
 pub every_footprint : (test : ℕ → ℕ → Bool) (w h : ℕ)
     → IsTrue (list_all (λ sides. test sides.0 sides.1) footprint_sides) → IsTrue (is_footprint w h)
     → IsTrue (test w h)
@@ -58,7 +60,7 @@ pub sides_few : (w h : ℕ) → IsTrue (is_footprint w h) → w * h ≤ 144
 sides_few w h sides = let s : IsSides w h = is_footprint-sides w h sides in
     mul-le-mul s.most_width s.most_height
 
--- the column and the row of a place
+-- the column and the row of a place are within the sides
 pub column_below : (w h p : ℕ) → IsTrue (is_footprint w h) → p % w < w
 column_below w h p sides = let s : IsSides w h = is_footprint-sides w h sides in
     mod-lt p (omega (arith, s.least_width))

@@ -1,4 +1,4 @@
--- The rounded mean has the least sum of squared differences.
+-- The rounded mean has the least sum of squared differences from a list of numbers.
 use Rattle.std.proofs.Common.{◌≡◌, ℕ, zero, suc, ◌+◌, ◌-◌, ◌*◌, ◌/◌, ◌%◌, ◌<◌, ◌≤◌, List, [], ◌∷◌, cond, refl, arith, inl, inr}
 use Rattle.std.specs.Prelude.{Option, None, Some, sum_by, is_some}
 use Rattle.std.proofs.lemmas.Bool.{cases_lt}
@@ -29,7 +29,7 @@ square_law a b =
       | inr more ↦ let whole : a ≡ b + (a - b) = omega arith in rw whole (square_down b (a - b))
     ]
 
--- the squared difference of k and a place's channel, 0 outside
+-- the squared difference of k and a channel of a place's texel; 0 outside the image
 unfoldable pub square_at : ℕ → ℕ → Option Texel → ℕ
 square_at k c None = 0
 square_at k c (Some texel) = squared_difference k (channel c texel)
@@ -38,7 +38,7 @@ square_at k c (Some texel) = squared_difference k (channel c texel)
 unfoldable pub squares : ℕ → ℕ → List (Option Texel) → ℕ
 squares k c places = sum_by (square_at k c) places
 
--- the square of a place's channel, 0 outside
+-- the square of a channel of a place's texel; 0 outside the image
 own_square : ℕ → Option Texel → ℕ
 own_square c None = 0
 own_square c (Some texel) = channel c texel * channel c texel
@@ -52,7 +52,7 @@ unfolding square_at own_square
 place_law k c None = omega arith
 place_law k c (Some texel) = omega (arith, square_law k (channel c texel))
 
--- one place more, over plain numbers
+-- the equation of the sums holds after one more place
 more : (k q s o n q_rest s_rest o_rest n_rest q_all s_all o_all n_all : ℕ)
     → q_all ≡ q + q_rest → s_all ≡ s + s_rest → o_all ≡ o + o_rest → n_all ≡ n + n_rest
     → q + 2 * (k * s) ≡ o + n * (k * k) → q_rest + 2 * (k * s_rest) ≡ o_rest + n_rest * (k * k)
@@ -73,7 +73,7 @@ squares_law k c (place ∷ places) =
     (sum_by-cons (own_square c) place places) (sum_by-cons one_at place places)
     (place_law k c place) (squares_law k c places)
 
--- with no place inside there is no error
+-- if no place is inside, the sum of squares is 0
 none_inside : (k c : ℕ) (places : List (Option Texel)) → inside_count places ≡ 0
     → squares k c places ≡ 0
 unfolding squares square_at
@@ -86,7 +86,7 @@ none_inside k c (None ∷ places) none =
 none_inside k c (Some texel ∷ places) none =
     absurd (omega (arith, none, sum_by-cons {X = Option Texel} one_at (Some texel) places))
 
--- with m = (2s + n) / 2n
+-- the bounds of the rounded mean m = (2s + n) / 2n
 between : (s n : ℕ) → 0 < n → (2 * s ≤ 2 * (n * mean_of s n) + n)
     × (2 * (n * mean_of s n) ≤ 2 * s + n)
 between s zero some = absurd (omega arith)
@@ -101,7 +101,7 @@ own_le_square : (d : ℕ) → d ≤ d * d
 own_le_square zero = omega arith
 own_le_square (suc d) = omega arith
 
--- over plain numbers: m is closer to s / n than a greater k, and than a smaller one
+-- m is closer to s / n than a greater number k = m + d, and than a smaller one
 least_above : (n s o m d qm qk : ℕ) → 2 * s ≤ 2 * (n * m) + n
     → qm + 2 * (m * s) ≡ o + n * (m * m) → qk + 2 * ((m + d) * s) ≡ o + n * ((m + d) * (m + d))
     → qm ≤ qk
@@ -128,7 +128,7 @@ least n s o m k qm qk above below m_law k_law =
           (rw whole at below) (rw whole at m_law) k_law
     ]
 
--- no number is closer to a channel of the inside texels than their mean
+-- no number has a smaller sum of squared differences from a channel than its mean
 pub mean_is_least : (c k : ℕ) (places : List (Option Texel))
     → squares (mean_of (channel_sum c places) (inside_count places)) c places ≤ squares k c places
 unfolding squares

@@ -3,7 +3,7 @@ use Rattle.std.proofs.Common.{◌≡◌, false, ℕ, zero, suc, ◌+◌, ◌*◌
 use Rattle.std.proofs.lemmas.Bool.{cases_lt}
 use Rattle.astc_model.specs.Sums.{sum_to, all_below}
 
--- one term more, as a loop's step has it
+-- a sum over one more number, in the form of a loop's step
 pub sum_to-more : (f : ℕ → ℕ) (n : ℕ) → sum_to f (n + 1) ≡ sum_to f n + f n
 unfolding sum_to
 sum_to-more f n = rw (add-one n) refl
@@ -12,7 +12,7 @@ pub sum_to-zero : (f : ℕ → ℕ) → sum_to f 0 ≡ 0
 unfolding sum_to
 sum_to-zero f = refl
 
--- the same terms, the same sum
+-- two sums with equal terms are equal
 pub sum_to-same : (f g : ℕ → ℕ) (n : ℕ) → ((i : ℕ) → i < n → f i ≡ g i) → sum_to f n ≡ sum_to g n
 unfolding sum_to
 sum_to-same f g zero h = refl
@@ -21,7 +21,7 @@ sum_to-same f g (suc n) h =
     let last : f n ≡ g n = h n (omega arith) in
     omega (arith, before, last)
 
--- terms of at most m give a sum of at most n times m
+-- n terms of at most m have a sum of at most n times m
 pub sum_to-≤ : (f : ℕ → ℕ) (m n : ℕ) → ((i : ℕ) → i < n → f i ≤ m) → sum_to f n ≤ n * m
 unfolding sum_to
 sum_to-≤ f m zero h = omega arith
@@ -30,7 +30,7 @@ sum_to-≤ f m (suc n) h =
     let last : f n ≤ m = h n (omega arith) in
     omega (arith, before, last)
 
--- a smaller sum for smaller terms
+-- a sum with smaller terms is smaller
 pub sum_to-le-sum_to : (f g : ℕ → ℕ) (n : ℕ) → ((i : ℕ) → i < n → f i ≤ g i)
     → sum_to f n ≤ sum_to g n
 unfolding sum_to
@@ -53,7 +53,7 @@ and_right : (a b : Bool) → IsTrue (a && b) → IsTrue b
 and_right true b h = h
 and_right false b h = (cc)
 
--- what holds of all numbers below n holds of each
+-- a test that is true for all numbers below n is true for each of them
 pub every_below : (p : ℕ → Bool) (n i : ℕ) → IsTrue (all_below p n) → i < n → IsTrue (p i)
 every_below p zero i h lt = absurd (omega arith)
 every_below p (suc n) i h lt =

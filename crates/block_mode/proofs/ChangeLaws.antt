@@ -1,4 +1,4 @@
--- A legal block with one integer changed is legal.
+-- A legal block after a change of one integer is legal.
 use Rattle.std.proofs.Common.{◌≡◌, ℕ, ◌<◌, ◌^◌, true, nat_lt, List, length, set, refl, ◌∙◌, arith}
 use Rattle.std.specs.List.{All, list_all}
 use Rattle.std.proofs.lemmas.Bool.{ltb-true, lt-ltb}
@@ -29,9 +29,9 @@ below-set : (n : ℕ) (xs : List ℕ) (at value : ℕ) → All (λ x. x < n) xs 
     → All (λ x. x < n) (set xs at value)
 below-set n xs at value all small = All-set (λ x. x < n) xs at value small all
 
--- ---- each kind of integer
+-- ---- the kinds of integers
 
--- the fields of a coded block other than its integers
+-- the coded block with other integers
 abbrev with_integers : CodedFields → List ℕ → List ℕ → CodedFields
 with_integers coded colours weights = record coded {
   colours = record { items = colours };

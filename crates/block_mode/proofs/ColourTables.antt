@@ -10,7 +10,7 @@ use Rattle.astc_model.proofs.SumLaws.{every_below}
 use Rattle.block_mode.specs.Places.{level_place}
 use Rattle.block_mode.specs.declared.colours.TheConstants.{COLOUR_BITS}
 
--- numbers that a test of all below n finds to be the same
+-- equality of two functions below n, found by a test
 same_below : (f g : ℕ → ℕ) (n i : ℕ) → IsTrue (all_below (λ k. f k == g k) n) → i < n → f i ≡ g i
 same_below f g n i all lt = eqb-true (f i) (g i) (every_below (λ k. f k == g k) n i all lt)
 

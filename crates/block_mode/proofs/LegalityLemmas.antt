@@ -1,4 +1,4 @@
--- The test of legality is right, part by part.
+-- The test of legality agrees with the definition, field by field.
 use Rattle.std.proofs.Common.{◌≡◌, ℕ, ◌+◌, ◌/◌, ◌^◌, ◌<◌, ◌≤◌, Bool, true, false, ◌&&◌, ◌==◌, nat_lt, nat_le, IsTrue, if◌then◌else◌, List, length, get_or, Option, None, Some, Result, Ok, Err, refl, arith, inl, inr}
 use Rattle.std.specs.List.{All, list_all}
 use Rattle.std.proofs.lemmas.Bool.{and_parts, lt-ltb, ltb-true, le-ltb, le-leb, leb-true, eq-eqb, eqb-true, eqb-false, cases_lt}
@@ -131,7 +131,7 @@ four-from : (p : ℕ → Bool) → IsTrue (p 0) → IsTrue (p 1) → IsTrue (p 2
     → IsTrue (all_below p 4)
 four-from p a b c d = rw (a, b, c, d) refl
 
--- ---- what a block lacks
+-- ---- fields that the block does not store
 
 single-from : (one : Bool) (seed selector : ℕ)
     → (if one then (seed == 0) && (selector == 0) else true) ≡ true → one ≡ true → (seed ≡ 0)
@@ -222,7 +222,7 @@ unfolding are_integers_of
 from-integers level count integers all h =
     rw (eq-eqb (length integers) count all, from-below (count_of level) integers h) refl
 
--- ---- the whole
+-- ---- the whole block
 
 legal-values : (w h : ℕ) (coded : CodedFields) (row : Mode) (shape : Result Level BlockFault)
     → AreFieldsInRange coded → AreSparesFixed coded

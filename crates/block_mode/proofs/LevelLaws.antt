@@ -1,4 +1,4 @@
--- The level of colour integers is the greatest that fits.
+-- The level of the colour integers is the greatest one that fits.
 use Rattle.std.proofs.Common.{◌≡◌, ℕ, ◌+◌, ◌<◌, ◌≤◌, Bool, true, false, cond, ◌&&◌, nat_le, IsTrue, List, [], ◌∷◌, Option, None, Some, IfSome, IsNone, ◌↔◌, refl, sym, ◌∙◌, ap, arith, ◌⊎◌, inl, inr}
 use Rattle.std.specs.List.{find, list_all}
 use Rattle.std.proofs.lemmas.Bool.{and_parts, leb-true, le-leb, leb-false, lt-leb}
@@ -7,7 +7,7 @@ use Rattle.astc_model.specs.declared.level.Level.TheVariants.{Two, Three, Four, 
 use Rattle.astc_model.specs.Levels.{count_of, sequence_bits}
 use Rattle.astc_model.specs.Shapes.{colour_levels, greatest_fit, IsGreatestFit}
 
--- a level is in a list
+-- a level occurs in a list
 abbrev In : Level → List Level → Type 0
 In y [] = ⊥
 In y (x ∷ xs) = (y ≡ x) ⊎ In y xs
@@ -22,7 +22,7 @@ all-in p [] y all here = absurd here
 all-in p (x ∷ xs) y all (inl same) = rw same ((and_parts (p x) (list_all p xs) all).0)
 all-in p (x ∷ xs) y all (inr later) = all-in p xs y ((and_parts (p x) (list_all p xs) all).1) later
 
--- the first that passes has the greatest count
+-- x is the level with the greatest count among those in the list for which p is true
 record IsGreatest (p : Level → Bool) (xs : List Level) (x : Level) : Type 0 where
   passes : IsTrue (p x)
   inside : In x xs
@@ -73,7 +73,7 @@ find-greatest p (first ∷ xs) x order found =
     (is_descending xs) order in
     find-step p first xs x (p first) refl both.0 (λ later. find-greatest p xs x both.1 later) found
 
--- none is found exactly if none passes
+-- `find` returns None exactly if p is true for no level of the list
 none-step : (p : Level → Bool) (first : Level) (xs : List Level) (passes : Bool) → p first ≡ passes
     → (find p xs ≡ None → (y : Level) → In y xs → p y ≡ false)
     → cond passes (Some first) (find p xs) ≡ None
@@ -95,7 +95,7 @@ none-found p [] fails = refl
 none-found p (first ∷ xs) fails =
     rw (fails first (inl refl)) (none-found p xs (λ y later. fails y (inr later)))
 
--- every level from 6 on is a level of colours
+-- every level from 6 on is in the list of colour levels
 in-colour_levels : (y : Level) → 6 ≤ count_of y → In y colour_levels
 in-colour_levels Two six = absurd (omega (arith, six))
 in-colour_levels Three six = absurd (omega (arith, six))
@@ -128,7 +128,7 @@ in-colour_levels Six six =
     inr (inr (inr (inr (inr
     (inr (inr (inr (inr (inr (inr (inr (inr (inr (inr (inr (inl refl))))))))))))))))
 
--- level 6 has the shortest sequence of them
+-- a sequence of level 6 is the shortest of the colour levels
 six-shortest : (y : Level) (n : ℕ) → 6 ≤ count_of y → sequence_bits Six n ≤ sequence_bits y n
 six-shortest Two n six = absurd (omega (arith, six))
 six-shortest Three n six = absurd (omega (arith, six))
@@ -186,7 +186,7 @@ no-greatest_fit taken n long =
           (all-in (λ y. nat_le 6 (count_of y)) colour_levels y refl place)),
     )))
 
--- the same of a result that is the greatest fit
+-- a result equal to `greatest_fit` is the greatest fit
 pub if-greatest_fit : (taken n : ℕ) (result : Option Level) → result ≡ greatest_fit taken n
     → IfSome result (IsGreatestFit taken n)
 if-greatest_fit taken n None same = tt

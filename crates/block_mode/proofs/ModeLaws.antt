@@ -1,4 +1,4 @@
--- The common properties of all block modes.
+-- The ranges of all decoded block modes.
 use Rattle.std.proofs.Common.{◌≡◌, ℕ, zero, suc, ◌<◌, ◌≤◌, Bool, true, ◌&&◌, nat_le, IsTrue, List, [], ◌∷◌, get_or, Option, None, Some, refl, subst, arith}
 use Rattle.std.specs.List.{list_all}
 use Rattle.astc_model.specs.declared.level.Level.{Level}
@@ -52,7 +52,7 @@ decoded_mode-range m row small known =
       two_planes = leb-true row.planes 2 planes.1;
     }
 
--- no level of weights has more than 32 values
+-- the levels of weights have at most 32 values
 few_among : (levels : List Level) (k : ℕ) → list_all (λ level. nat_le (count_of level) 32) levels
     ≡ true → count_of (get_or levels k Two) ≤ 32
 few_among [] k few = omega arith

@@ -1,4 +1,4 @@
--- No sequence is long.
+-- Bounds on the lengths of sequences.
 use Rattle.std.proofs.Common.{ℕ, ◌≤◌, arith}
 use Rattle.astc_model.specs.declared.level.Level.{Level}
 use Rattle.astc_model.specs.declared.level.Level.TheVariants.{Two, Three, Four, Five, Six, Eight, Ten, Twelve, Sixteen, Twenty, TwentyFour, ThirtyTwo, Forty, FortyEight, SixtyFour, Eighty, NinetySix, OneTwentyEight, OneSixty, OneNinetyTwo, TwoFiftySix}

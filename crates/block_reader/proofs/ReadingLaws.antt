@@ -1,4 +1,4 @@
--- Blocks that are read are legal, stage by stage.
+-- Decoded blocks are legal, proved stage by stage.
 use Rattle.std.proofs.Common.{◌≡◌, ℕ, zero, suc, ◌+◌, ◌-◌, ◌*◌, ◌/◌, ◌^◌, ◌<◌, ◌≤◌, Bool, true, false, not, ◌==◌, if◌then◌else◌, List, [], ◌∷◌, length, get_or, Option, None, Some, Result, Ok, Err, refl, sym, ◌∙◌, ap, subst, arith, eq-eqb, inl, inr}
 use Rattle.std.specs.Int.{bit_at}
 use Rattle.std.proofs.lemmas.Bool.{cases_lt, lt-ltb, eqb-true, eqb-false}
@@ -73,9 +73,9 @@ constant-stage w h z block false true true known is =
 
 -- ---- endpoint modes
 
--- beyond the last partition
+-- the endpoint modes of missing partitions
 
--- an entry of the list of four
+-- an entry of a list of four entries by partition
 four-entry : (f : ℕ → ℕ) (parts part : ℕ) → parts ≤ 4
     → get_or (if_part parts 0 (f 0) ∷ if_part parts 1 (f 1) ∷ if_part parts 2 (f 2)
     ∷ if_part parts 3 (f 3) ∷ []) part 0 ≡ if_part parts part (f part)
@@ -95,8 +95,8 @@ one-entry mode (suc (suc (suc zero))) = refl
 one-entry mode (suc (suc (suc (suc part)))) =
     sym (if_part-beyond 1 (suc (suc (suc (suc part)))) mode (omega arith))
 
--- the list of endpoint modes, and the mode of each partition, with the case of one partition as a
--- variable
+-- the list of endpoint modes, and the mode of one partition; `one` says whether there is one
+-- partition
 abbrev modes_by : Bool → ℕ → ℕ → ℕ → ℕ → List ℕ
 modes_by one parts selector code single = if one then single ∷ 0 ∷ 0 ∷ 0
     ∷ [] else modes_in_code parts selector code
@@ -120,7 +120,7 @@ modes_by-entry true parts selector code single part known few =
 modes_by-entry false parts selector code single part known few =
     four-entry (mode_in_code parts selector code) parts part few
 
--- a mode by its class and the two bits in it, with the case of selector 0 as a variable
+-- a mode from its class and the two bits in the class; `none` says whether the selector is 0
 abbrev class_mode : Bool → ℕ → ℕ → ℕ → ℕ → ℕ
 class_mode none selector all bit low = if none then all else 4 * (selector - 1 + bit) + low
 
@@ -139,7 +139,7 @@ class_mode-classed false selector all bit low known four all_fits bit_fits low_f
     let some_selector : 0 < selector = omega (arith, eqb-false selector 0 known) in
     record { small = omega arith; low_class = omega arith; high_class = λ some. omega arith }
 
--- ---- the fields at their places
+-- ---- the fields at their positions
 
 cems_at-entry : (z : ℕ) (row : Mode) (part : ℕ) → get_or (cems_at z row) part 0
     ≡ if_part (parts_at z) part (mode_by (parts_at z == 1) (parts_at z) (selector_at z)
@@ -166,7 +166,7 @@ selector_at-lt z = zero_or-lt (parts_at z == 1) (field_of z 23 2) 4 (field_of-lt
 selector_at-one : (z : ℕ) → parts_at z ≡ 1 → selector_at z ≡ 0
 selector_at-one z one = rw (eq-eqb (parts_at z) 1 one) refl
 
--- the mode of a partition is one that the selector can write
+-- the mode of a partition belongs to a class that the selector allows
 mode_by-classed : (one : Bool) (parts selector code single part : ℕ) → (one ≡ true → selector ≡ 0)
     → selector < 4 → single < 16
     → IsClassed selector (mode_by one parts selector code single part)
@@ -184,7 +184,7 @@ mode_by-classed false parts selector code single part none four single_fits =
     refl four (field_of-lt code 2 4) (bit_at-lt code (2 + part))
     (field_of-lt code (2 + parts + 2 * part) 2)
 
--- with selector 0 all partitions have the same mode
+-- with the selector 0, all partitions have the same mode
 mode_by-same : (one : Bool) (parts selector code single part : ℕ) → selector ≡ 0
     → mode_by one parts selector code single part ≡ mode_by one parts selector code single 0
 mode_by-same true parts selector code single part none = refl
@@ -307,7 +307,7 @@ bits-stage w h z block true is =
     (is_extent_in_order (extent_at z)) refl is
 bits-stage w h z block false is = grid-stage w h z block (decoded_mode (mode_at z)) refl is
 
--- a block that is read is legal
+-- a decoded block is legal
 pub read-legal : (w h : ℕ) (bytes : List ℕ) (block : Block) → read w h bytes ≡ Ok block
     → Legal w h block
 unfolding read

@@ -1,4 +1,5 @@
--- Blocks that are read are legal, and the weights are read from the top of the block.
+-- Decoded blocks are legal, and the weights are decoded in reverse bit order from the top of the
+-- block.
 use Rattle.std.proofs.Common.{◌≡◌, ℕ, ◌/◌, ◌^◌, ◌≤◌, List, Result, Ok, Err, IfOk, sym, ◌∙◌, ap, arith}
 use Rattle.astc_model.specs.declared.level.Level.{Level}
 use Rattle.astc_model.specs.Bits.{number_of, top_field}
@@ -18,7 +19,7 @@ unfolding read
 legal_if_read w h bytes z (Ok block) bits same = read-legal w h bytes block (rw bits at (sym same))
 legal_if_read w h bytes z (Err fault) bits same = tt
 
--- a sequence at the low end of the reversed block is one at the top of the block
+-- a sequence at the low end of the reversed block is the sequence at the top of the block
 pub sequence-from_top : (block r : ℕ) (level : Level) (n : ℕ) → IsReversed block r
     → sequence_bits level n ≤ 128 → sequence (r / 2 ^ 0) level n
     ≡ sequence (top_field block 0 (sequence_bits level n)) level n

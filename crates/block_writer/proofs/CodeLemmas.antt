@@ -1,4 +1,4 @@
--- The number of the endpoint modes of several partitions reads as them.
+-- The code of the endpoint modes of several partitions is decoded to these modes.
 use Rattle.std.proofs.Common.{◌≡◌, ℕ, zero, suc, ◌+◌, ◌-◌, ◌*◌, ◌/◌, ◌%◌, ◌^◌, ◌<◌, ◌≤◌, false, ◌==◌, List, [], ◌∷◌, length, get_or, refl, sym, ◌∙◌, arith, add_comm, ne_eqb, inl, inr}
 use Rattle.std.specs.Int.{bit_at}
 use Rattle.std.proofs.lemmas.Bool.{cases_lt, lt-ltb, le-ltb}
@@ -105,7 +105,7 @@ code-fits coded fields spares some = (
   ),
 )
 
--- what the packed fields say of each partition
+-- the class bits and the mode bits of each partition in the code
 record AreCodeFields (coded : CodedFields) (code parts : ℕ) : Type 0 where
   class_bits : (part : ℕ) → part < parts → bit_at code (2 + part) ≡ class_bit_of coded part
   low_bits : (part : ℕ) → part < parts → field_of code (2 + parts + 2 * part) 2
@@ -210,7 +210,7 @@ code-of_classes coded code fields spares several some same =
           spares.no_mode;
     }
 
--- ---- in two runs of bits
+-- ---- the code in two places of the block
 
 pub code-in_two : (code width : ℕ) → code < 2 ^ (6 + width)
     → field_of code 0 6 + 64 * field_of code 6 width ≡ code

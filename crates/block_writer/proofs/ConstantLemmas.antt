@@ -1,4 +1,4 @@
--- A void extent whose fields are packed reads back.
+-- A void-extent block that is packed from its fields is decoded to the same block.
 use Rattle.std.proofs.Common.{◌≡◌, ℕ, zero, suc, ◌^◌, ◌<◌, true, nat_lt, IsTrue, if◌then◌else◌, List, [], ◌∷◌, length, get_or, Result, Ok, Err, not, refl, arith}
 use Rattle.std.specs.List.{list_all}
 use Rattle.std.proofs.lemmas.Bool.{and_parts, ltb-true}

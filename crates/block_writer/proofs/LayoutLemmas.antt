@@ -1,4 +1,4 @@
--- The packed fields are at their places.
+-- The packed fields of a block are at their positions.
 use Rattle.std.proofs.Common.{◌≡◌, ℕ, ◌+◌, ◌-◌, ◌*◌, ◌^◌, ◌<◌, ◌≤◌, List, length, get_or, take, refl, sym, ◌∙◌, ap, arith, ◌⊎◌, inl, inr}
 use Rattle.std.proofs.lemmas.Bool.{cases_lt}
 use Rattle.std.proofs.lemmas.Nat.{pow_pos}
@@ -64,12 +64,12 @@ layout-fits coded mode level fields weights sizes writable partitions turned = (
   ),
 )
 
--- each field is at its place
+-- the position of each packed field
 
 moved : (z k n j m v : ℕ) → field_of z k n ≡ v → k ≡ j → n ≡ m → field_of z j m ≡ v
 moved z k n j m v here place width = rw (place, width) at here
 
--- the nine fields that are packed
+-- field i of the packed number has value i
 abbrev pub IsPackedAt : ℕ → List ℕ → List ℕ → ℕ → Type 0
 IsPackedAt z widths values i = field_of z (total_width (take i widths)) (get_or widths i 0)
     ≡ get_or values i 0
@@ -78,7 +78,7 @@ pub packed-at : (z : ℕ) (widths values : List ℕ) (i : ℕ) → AllFit widths
     ≡ packed widths values → i < length widths → IsPackedAt z widths values i
 packed-at z widths values i fit same below = rw same (field_of-packed widths values i fit below)
 
--- the first bits of the fields at the top, whatever the fields are
+-- the positions of the fields at the top of the block
 record AreTopPlaces (coded : CodedFields) (mode : Mode) (level : Level)
     (fields : PartitionFields) : Type 0 where
   colours : 11 + (2 + (fields.low_bits + (fields.middle_bits + 0))) ≡ colour_start coded.parts
@@ -96,7 +96,7 @@ record AreTopPlaces (coded : CodedFields) (mode : Mode) (level : Level)
       level + (plane_bits mode + (fields.high_bits + 0)))))))
       ≡ 128 - weight_data_bits mode
 
--- ... with variables for the widths that do not compute
+-- the positions of the fields, with variables for the widths that do not compute
 places : (low middle colours plane high weights start : ℕ) → 13 + low + middle ≡ start
     → start + weights + high + plane + colours ≤ 128
     → (11 + (2 + (low + (middle
@@ -127,7 +127,7 @@ top-places coded mode level fields writable partitions =
       weights = rw partitions.high_width tops.2;
     }
 
--- several partitions: the bits of their endpoint modes
+-- the six low bits of the code of several partitions are at bit 23
 middle-at : (z low_bits middle_bits middle : ℕ) → field_of z (11 + (2 + (low_bits + 0))) middle_bits
     ≡ middle → low_bits ≡ 10 → middle_bits ≡ 6 → field_of z 23 6 ≡ middle
 middle-at z low_bits middle_bits middle here low width = moved z _ middle_bits 23 6 middle here

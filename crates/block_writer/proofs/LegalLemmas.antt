@@ -38,7 +38,7 @@ writable-legal w h coded mode level legal =
       weight_ranges = legal.weight_ranges;
     }
 
--- ---- the mode and the level are those that the fields say
+-- ---- the mode and the level that the code computes are those of the block
 
 pub some-same : (x y : Mode) → ◌≡◌ {A = Option Mode} (Some x) (Some y) → x ≡ y
 some-same x y is = cc

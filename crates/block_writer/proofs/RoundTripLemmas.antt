@@ -1,4 +1,4 @@
--- A coded block whose fields are at their places reads back.
+-- A number that has the fields of a coded block at their positions is decoded to this block.
 use Rattle.std.proofs.Common.{◌≡◌, ℕ, ◌+◌, ◌-◌, ◌/◌, ◌^◌, ◌<◌, ◌≤◌, Bool, true, false, ◌==◌, if◌then◌else◌, List, [], ◌∷◌, length, get_or, Option, None, Some, Ok, refl, sym, ◌∙◌, ap, subst, arith, eq-eqb, ne_eqb, ◌⊎◌, inl, inr}
 use Rattle.std.proofs.lemmas.Bool.{cases_lt}
 use Rattle.std.specs.Int.{bit_at}
@@ -204,7 +204,7 @@ coded-back z coded mode level writable sizes count at =
     ∙ plane-back z mode coded.parts coded.selector coded.plane sizes.range.some_plane
     sizes.range.two_planes writable.plane_named at.plane_field)
 
--- a coded block that is legal and whose fields are at their places
+-- a number with the fields of a legal coded block is decoded to the block
 pub read-back : (w h z : ℕ) (coded : CodedFields) (mode : Mode) (level : Level)
     → IsLegalCoded w h coded mode level → AreFieldsOf z coded mode level → read_bits w h z
     ≡ Ok (Coded coded)
@@ -246,7 +246,7 @@ unused-zero z coded mode level k at above below =
     ∙ sym (bit_at-field_of z start (top_start coded mode - start) (k - start) (omega arith))
     ∙ ap (λ x. bit_at x (k - start)) at.unused_field ∙ bit_at-zero (k - start)
 
--- whatever mode and level the fields say, they are the block's
+-- the mode and the level are determined by the block
 fields-of_any : (w h z : ℕ) (coded : CodedFields) (mode other : Mode) (level range : Level)
     → IsLegalCoded w h coded mode level → AreFieldsOf z coded mode level
     → decoded_mode coded.mode ≡ Some other

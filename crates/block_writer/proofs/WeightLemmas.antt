@@ -1,4 +1,4 @@
--- Weights begin at the top of the block and go downwards.
+-- The weights are stored in reverse bit order from the top of the block.
 use Rattle.std.proofs.Common.{◌≡◌, ℕ, zero, suc, ◌+◌, ◌-◌, ◌^◌, ◌<◌, ◌≤◌, refl, sym, ◌∙◌, ap, arith}
 use Rattle.std.specs.Int.{bit_at}
 use Rattle.std.proofs.Math.Nat.{div-one, mod-eq_of_lt}
@@ -6,7 +6,7 @@ use Rattle.astc_model.specs.Bits.{field_of, top_field}
 use Rattle.astc_model.proofs.BitLaws.{field_of-is, bit_at-field_of}
 use Rattle.ise_codec.proofs.ReversalLaws.{IsReversed}
 
--- bit i of the sequence is bit i from the top of the reversed block's highest bits
+-- bit i of the sequence, counted from the top of the reversed sequence
 pub turned-bit : (sequence r width i : ℕ) → IsReversed sequence r → width ≤ 128 → i < width
     → bit_at (field_of r (128 - width) width) (width - 1 - i) ≡ bit_at sequence i
 turned-bit sequence r width i reversed short below =
@@ -15,7 +15,7 @@ turned-bit sequence r width i reversed short below =
     bit_at-field_of r (128 - width) width (width - 1 - i) (omega arith) ∙ ap (bit_at r) place
     ∙ reversed (127 - i) (omega arith) ∙ ap (bit_at sequence) back
 
--- a number that has the sequence's bits from the top has the sequence there
+-- a number that has the bits of the sequence in reverse order from the top has the sequence there
 top_field-same : (z sequence k n : ℕ) → ((i : ℕ) → k ≤ i → i < k + n → bit_at z (127 - i)
     ≡ bit_at sequence i) → top_field z k n ≡ field_of sequence k n
 unfolding field_of top_field

@@ -1,4 +1,4 @@
--- Targets by a product, instead of a division.
+-- Targets are computed by a product with an inverse, instead of a division.
 use Rattle.std.proofs.Common.{◌≡◌, ℕ, zero, suc, ◌+◌, ◌-◌, ◌*◌, ◌/◌, ◌%◌, ◌^◌, ◌<◌, ◌≤◌, ◌==◌, min, max, Bool, true, false, refl, sym, ap, ◌∙◌, arith, inl, inr, mul-le-mul, mul-le-mul_right, ℤ, pos, negsuc, ◌*ℤ◌}
 use Rattle.std.proofs.Math.IntN.{*ℤ-zero}
 use Rattle.std.proofs.lemmas.Bool.{cases_lt, ne_eqb}
@@ -10,7 +10,8 @@ use Rattle.candidates.specs.Axes.{rise, axis_of, num_on, within}
 
 -- ---- the division
 
--- x is d * a + b, and m is 2^46 over d, or a little more
+-- the product with m, an inverse of d in units of 2^-46 that is too large by little, gives the
+-- quotient a of d * a + b
 by_parts : (d m a b e : ℕ) → d * m ≡ 70368744177664 + e → e ≤ d → b < d → d ≤ 260100 → a ≤ 65
     → (d * a + b) * m / 70368744177664 ≡ a
 by_parts d m a b e whole little part small few =
@@ -40,7 +41,7 @@ divided_law x d some small few =
     ap (λ t. t * (q + 1) / 70368744177664) (sym own) ∙ by_parts d (q + 1) (x / d) (x % d)
     (d - r) whole (omega arith) over small at_most
 
--- so it does not overflow
+-- the product does not overflow 64 bits
 pub divided_fits : (x d : ℕ) → 0 < d → d ≤ 260100 → x ≤ 65 * d
     → x * (70368744177664 / d + 1) < 2 ^ 64
 divided_fits x d some small few =
@@ -51,7 +52,7 @@ divided_fits x d some small few =
 
 -- ---- the quotient
 
--- n lies within 0 to d
+-- the clamped quotient for n within 0 to d
 below_all : (n d : ℕ) → n ≤ suc d → (64 * n + suc d / 2) / suc d
     ≡ min 64 ((64 * n + suc d / 2) / suc d)
 below_all n d fits =
@@ -59,7 +60,7 @@ below_all n d fits =
     (omega arith) (omega (arith, fits)) in
     omega (arith, few)
 
--- n lies beyond d
+-- the clamped quotient for n above d
 above_all : (n d : ℕ) → suc d ≤ n → (64 * suc d + suc d / 2) / suc d
     ≡ min 64 ((64 * n + suc d / 2) / suc d)
 above_all n d more =
@@ -90,7 +91,7 @@ quotient_law (pos n) (suc d) =
       | inr fits ↦ let own : min n (suc d) ≡ n = omega arith in rw own (below_all n d fits)
     ])
 
--- in the form of the code
+-- the quotient in the form of the code
 pub quotient_by : (n : ℤ) (d inside half most found : ℕ) → inside ≡ within n d → half ≡ d / 2 → most
     ≡ max d 1 → found ≡ (64 * inside + half) / most → found ≡ quotient n d
 quotient_by n d inside half most found inside_is half_is most_is found_is =

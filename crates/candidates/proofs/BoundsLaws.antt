@@ -1,4 +1,4 @@
--- The bounds over one place more.
+-- Steps of the loop that computes the bounds.
 use Rattle.std.proofs.Common.{◌≡◌, ℕ, ◌+◌, refl, add-one, Option, None, List, length, get_or, take, ◌<◌, ◌≤◌, arith}
 use Rattle.std.specs.List.{All}
 use Rattle.std.specs.Prelude.{min}
@@ -15,7 +15,7 @@ pub bounds_below_none : (texel : ℕ → Option Texel) → bounds_below texel 0 
 unfolding bounds_below
 bounds_below_none texel = refl
 
--- the first n entries, each of which is at most m
+-- if each of the first n entries is at most m, so are all entries of this prefix
 pub all_of_front : (m : ℕ) (xs : List ℕ) (n : ℕ) → ((k : ℕ) → k < n → get_or xs k 0 ≤ m)
     → All (λ x. x ≤ m) (take n xs)
 all_of_front m xs n each = λ k d within.

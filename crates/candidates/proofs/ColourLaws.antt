@@ -21,7 +21,7 @@ use Rattle.candidates.specs.Pieces.{bounds_by_part, colours_from, ends_from, IsP
 use Rattle.candidates.proofs.PieceLaws.{colours_from-is, ends_from-is}
 use Rattle.candidates.proofs.LegalLaws.{cems, same_cem, length-integers_by_part}
 
--- the integers of a partition follow those of the partitions before it
+-- the integers of a partition in the list for all partitions
 rows_of : (f : ℕ → List ℕ) (m a n k : ℕ) → ((part : ℕ) → length (f part) ≡ m) → k < n
     → take m (drop (k * m) (flat_map f (range_with_len a n))) ≡ f (a + k)
 rows_of f m a zero k long below = absurd (omega arith)
@@ -62,7 +62,7 @@ colours_of_part recipe level parts places n part few ldr below =
     (λ k. length-integers_by_part recipe level parts places n k ldr) below
     ∙ ap (integers_by_part recipe level parts places n) place
 
--- the two colours of a partition of a candidate are those that its integers are made of
+-- the endpoints of a candidate's partition are those from which its integers were made
 pub part_colours-are : (w h : ℕ) (recipe : Recipe) (mode : Mode) (level : Level)
     (places : List (Option Texel)) (coded : CodedFields) (part : ℕ) → coded
     ≡ coded_of w h recipe mode level places
@@ -88,7 +88,7 @@ part_colours-are w h recipe mode level places coded part same few ldr below =
 
 -- ---- palettes
 
--- the colours that are made from the bounds of the partitions
+-- the palette that is made from the bounds of the partitions
 pub palette-from : (w h : ℕ) (recipe : Recipe) (level : Level) (places : List (Option Texel))
     (parts : List ℕ) (bounds : List Box8) (palette : Palette)
     → parts ≡ part_map w h recipe.parts recipe.seed → bounds
@@ -116,7 +116,7 @@ palette-from w h recipe level places parts bounds palette map_is bounds_are leve
           places (w * h);
     }
 
--- the mode does not matter
+-- the palette does not depend on the block mode
 pub palette-of_mode : (w h number : ℕ) (shape : Recipe) (places : List (Option Texel))
     (palette : Palette) → IsPalette w h shape places palette
     → IsPalette w h (with_mode number shape) places palette

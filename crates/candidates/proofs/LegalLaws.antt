@@ -1,4 +1,4 @@
--- The candidates are legal blocks.
+-- Candidates are legal blocks.
 use Rattle.std.proofs.Common.{◌≡◌, ℕ, zero, suc, ◌+◌, ◌*◌, ◌/◌, ◌%◌, ◌<◌, ◌≤◌, Bool, true, false, not, ◌||◌, ◌==◌, nat_lt, IsTrue, if◌then◌else◌, List, [], ◌∷◌, map, length, get_or, Option, None, Some, Result, Ok, Err, refl, sym, ap, subst, ◌∙◌, arith, rules}
 use Rattle.std.specs.Prelude.{slice_index_or}
 use Rattle.std.specs.List.{All, AllByRecursion, list_all, list_any, range_with_len, flat_map}
@@ -39,7 +39,7 @@ here_or_later : (m n x : ℕ) (xs : List ℕ) (b : Bool) → (x == n) ≡ b → 
 here_or_later m n x xs true e small later any = let same : x ≡ n = eqb-true x n e in omega arith
 here_or_later m n x xs false e small later any = later (rw e at any)
 
--- a listed number is below what all listed ones are below
+-- if all numbers of a list are below m, so is a number in the list
 listed_below : (m n : ℕ) (xs : List ℕ) → IsTrue (list_all (λ x. nat_lt x m) xs)
     → IsTrue (list_any (λ x. x == n) xs) → n < m
 listed_below m n [] all any = absurd (cc)
@@ -50,7 +50,7 @@ listed_below m n (x ∷ xs) all any =
 pub ldr_small : (cem : ℕ) → IsTrue (is_ldr_mode cem) → cem < 16
 ldr_small cem ldr = listed_below 16 cem ldr_modes refl ldr
 
--- as many values as the mode has integers
+-- the number of ideal values is that of the endpoint mode's integers
 count_test : Texel → Texel → ℕ → Bool
 count_test f g cem = not (is_ldr_mode cem) || (length (values_of cem f g) == endpoint_integers cem)
 

@@ -1,4 +1,4 @@
--- The colours of a level, from what the levels share.
+-- The endpoints at a level are computed from ideal values that all levels share.
 use Rattle.std.proofs.Common.{◌≡◌, ℕ, ◌+◌, ◌<◌, ◌≤◌, List, [], ◌∷◌, ◌++◌, length, length-append, take, map, ap, sym, ◌∙◌, arith, inl, inr}
 use Rattle.std.specs.Prelude.{slice_index_or}
 use Rattle.std.specs.List.{range_with_len}
@@ -20,7 +20,7 @@ use Rattle.quant_tables.specs.Tables.{nearest_colour_value}
 use Rattle.candidates.specs.LevelColours.{ideal_from, ideal_at, AreIdealsTo}
 use Rattle.candidates.proofs.LoopLaws.{ends_more}
 
--- the values of the nearest integers give the colours of those integers
+-- the values of the closest integers give the endpoints of these integers
 pub ends_near-is : (cem : ℕ) (level : Level) (wanted : List ℕ) (n : ℕ) → length wanted ≤ n
     → (values slice : List ℕ) (ends : Ends) → values ≡ map (nearest_colour_value level)
     (take n wanted) → slice ≡ values
@@ -33,7 +33,7 @@ ends_near-is cem level wanted n whole values slice ends values_are same is =
     (take_all n wanted whole)
     ∙ sym (map-map (colour_value level) (nearest_colour level) wanted))
 
--- the values of one partition more
+-- a step of the loop over partitions that computes the ideal values
 pub ideals_more : (recipe : Recipe) (bounds : List Box8) (n i : ℕ) (old new : List (ArrayVec ℕ))
     (last : ArrayVec ℕ) → new ≡ old ++ last ∷ [] → AreIdealsTo recipe bounds n old → i ≡ n
     → last.items ≡ ideal recipe.cem recipe.flip (slice_index_or bounds i no_bounds).lo
@@ -62,7 +62,7 @@ module _ (recipe : Recipe) (level : Level) (bounds : List Box8) (ideals : List (
   own_ends k below = ap (λ values. ends_of recipe.cem level (map (nearest_colour level) values))
       (are.each k below)
 
-  -- the colours of one partition more
+  -- a step of the loop over partitions that computes the endpoints
   pub level_ends_more : (k : ℕ) → k < length ideals → (slice : List ℕ) (ends : Ends)
       (old new : List Ends) → slice ≡ ideal_at ideals k → ends
       ≡ ends_of recipe.cem level (map (nearest_colour level) slice)
@@ -75,7 +75,7 @@ module _ (recipe : Recipe) (level : Level) (bounds : List Box8) (ideals : List (
       slice_is ∙ own_ends k (omega (arith, are.all)))
       old_is
 
-  -- those of all
+  -- the endpoints of all partitions
   pub level_ends_all : (n : ℕ) → length ideals ≤ n → n ≤ length ideals → (ends : List Ends) → ends
       ≡ map (ends_of_part_from recipe level bounds) (range_with_len 0 n) → ends
       ≡ ends_from recipe level bounds

@@ -1,4 +1,4 @@
--- Steps of loops that go up from 0.
+-- Steps of loops with an index that rises from 0.
 use Rattle.std.proofs.Common.{◌≡◌, ℕ, zero, suc, ◌+◌, ◌*◌, ◌/◌, ◌<◌, List, [], ◌∷◌, ◌++◌, map, length, refl, ap, ◌∙◌, arith, add-one, length-append, div-lt_iff_lt-mul}
 use Rattle.std.specs.List.{range_with_len, flat_map}
 use Rattle.std.proofs.lemmas.List.{append-nil}
@@ -25,7 +25,7 @@ map_range_more f n = map-range_with_len_more f 0 n n (omega arith)
 pub point_below : (at planes points : ℕ) → 0 < planes → at < points * planes → at / planes < points
 point_below at planes points some below = (div-lt_iff_lt-mul some).1 below
 
--- ---- the colours of one partition more
+-- ---- the colours after one more partition
 
 pub colours_more : (f : ℕ → List ℕ) (n : ℕ) (new old slice integers : List ℕ) → new ≡ old ++ slice
     → slice ≡ integers → integers ≡ f n → old ≡ flat_map f (range_with_len 0 n) → new

@@ -1,11 +1,11 @@
--- The colour integers of a recipe.
+-- The number of colour integers of a recipe.
 use Rattle.std.proofs.Common.{◌≡◌, ℕ, zero, suc, ◌*◌, ◌≤◌, arith, nat_lt, if◌then◌else◌, [], ◌∷◌}
 use Rattle.astc_model.specs.declared.recipe.Recipe.{Recipe}
 use Rattle.astc_model.specs.Shapes.{colour_count}
 use Rattle.astc_model.specs.Endpoints.{endpoint_integers}
 use Rattle.astc_model.specs.Candidates.{cems_of}
 
--- the colour integers of equal partitions
+-- the number of colour integers of partitions with the same endpoint mode
 pub count_of_equal : (k cem : ℕ) → k ≤ 4
     → colour_count k (cem ∷ (if nat_lt 1 k then cem else 0) ∷ (if nat_lt 2 k then cem else 0)
     ∷ (if nat_lt 3 k then cem else 0) ∷ []) ≡ k * endpoint_integers cem

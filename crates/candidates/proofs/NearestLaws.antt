@@ -1,4 +1,4 @@
--- The place that the search over the places finds is the first nearest one of those inside.
+-- The search over the places finds the closest inside place, the first one at a tie.
 use Rattle.std.proofs.Common.{◌≡◌, ◌↔◌, ℕ, zero, suc, ◌*◌, ◌<◌, ◌≤◌, Bool, true, false, nat_lt, if◌then◌else◌, List, Option, None, Some, length, refl, ap, ◌∙◌, arith, inl, inr}
 use Rattle.std.specs.Prelude.{slice_index_or}
 use Rattle.std.specs.Option.{IsNone, IfSome}
@@ -11,12 +11,13 @@ use Rattle.astc_model.specs.Targets.{nearer_if, nearest_inside, place_of_point}
 use Rattle.candidates.specs.NearestPlaces.{distance_from_point, IsInside, IsNearestInside, TakesNearest}
 use Rattle.candidates.specs.Pieces.{grid_places}
 
--- the result of the search among the first n places
+-- the result of the search over the first `count` places is right
 Finds : (ℕ → ℕ) → List (Option Texel) → ℕ → Option ℕ → Type 0
 Finds far places count None = (q : ℕ) → q < count → IsNone (slice_index_or places q None)
 Finds far places count (Some p) = IsNearestInside far places count p
 
--- one inside place more, by the outcome of its comparison with the best so far
+-- a step of the search at an inside place, by the result of the comparison with the best place so
+-- far
 compared : (far : ℕ → ℕ) (places : List (Option Texel)) (p q : ℕ) (b : Bool)
     → nat_lt (far p) (far q) ≡ b → IsInside places p → IsNearestInside far places p q
     → Finds far places (suc p) (if b then Some p else Some q)
@@ -44,7 +45,7 @@ compared far places p q false less inside is =
       first = is.first;
     }
 
--- one place more
+-- a step of the search
 one_more : (far : ℕ → ℕ) (places : List (Option Texel)) (p : ℕ) (here : Option Texel)
     (best : Option ℕ) → slice_index_or places p None ≡ here → Finds far places p best
     → Finds far places (suc p) (nearer_if far p here best)
@@ -84,7 +85,7 @@ finds far places zero = λ q below. absurd (omega arith)
 finds far places (suc n) = one_more far places n (slice_index_or places n None)
     (nearest_inside far places n) refl (finds far places n)
 
--- ---- as the clauses say it
+-- ---- in the form of the clauses
 
 found_nearest : (far : ℕ → ℕ) (places : List (Option Texel)) (n : ℕ) (best : Option ℕ)
     → Finds far places n best → IfSome best (IsNearestInside far places n)

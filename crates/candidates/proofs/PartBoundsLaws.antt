@@ -1,4 +1,4 @@
--- The bounds of a partition are the least and the greatest of each channel over its texels.
+-- The bounds of a partition are the least and greatest values of each channel over its texels.
 use Rattle.std.proofs.Common.{◌≡◌, ◌⊎◌, ℕ, zero, suc, ◌<◌, ◌≤◌, ◌==◌, min, max, Bool, true, false, if◌then◌else◌, List, Option, None, Some, length, refl, sym, ap, ◌∙◌, arith, inl, inr}
 use Rattle.std.specs.Prelude.{slice_index, slice_index_or}
 use Rattle.std.proofs.Math.Nat.{min-le_left, min-le_right, le-max_left, le-max_right, min-eq_left, min-eq_right, max-eq_left, max-eq_right}
@@ -11,7 +11,7 @@ use Rattle.astc_model.specs.declared.bounds.Box8.{Box8}
 use Rattle.candidates.specs.PartBounds.{IsTexelOf, IsReached, AreBounds}
 use Rattle.candidates.specs.Pieces.{bounds_by_part, no_bounds}
 
--- f gives one of its two numbers, one that precedes both in this order
+-- f returns one of its arguments, which precedes both in the order `Before` (f is min or max)
 record Chooses (Before : ℕ → ℕ → Type 0) (f : ℕ → ℕ → ℕ) : Type 0 where
   same : (a : ℕ) → Before a a
   first : (a b : ℕ) → Before (f a b) a
@@ -61,7 +61,7 @@ channel-by_channel f a b (suc (suc zero)) few = refl
 channel-by_channel f a b (suc (suc (suc zero))) few = refl
 channel-by_channel f a b (suc (suc (suc (suc c)))) few = absurd (omega arith)
 
--- ---- one of the two bounds, over the places below n
+-- ---- one of the two bounds, over the first n places
 
 record IsEnd (Before : ℕ → ℕ → Type 0) (texel : ℕ → Option Texel) (n : ℕ)
     (end : Texel) : Type 0 where
@@ -70,7 +70,7 @@ record IsEnd (Before : ℕ → ℕ → Type 0) (texel : ℕ → Option Texel) (n
   reached : (c : ℕ) → c < 4 → (p : ℕ) × (t : Texel) × (p < n) × (texel p ≡ Some t)
       × (channel c t ≡ channel c end)
 
--- no texel at the place
+-- the bound is unchanged if the place has no texel
 end_stays : (Before : ℕ → ℕ → Type 0) (texel : ℕ → Option Texel) (p : ℕ) (end : Texel) → texel p
     ≡ None → IsEnd Before texel p end → IsEnd Before texel (suc p) end
 end_stays Before texel p end none is = record {
@@ -81,7 +81,7 @@ end_stays Before texel p end none is = record {
   reached = λ c few. let at = is.reached c few in (at.0, at.1, omega (arith, at.2), at.3, at.4);
 }
 
--- the first texel
+-- the bound after the first texel
 end_starts : (Before : ℕ → ℕ → Type 0) (f : ℕ → ℕ → ℕ) (texel : ℕ → Option Texel) (p : ℕ)
     (t : Texel) → Chooses Before f → texel p ≡ Some t
     → ((q : ℕ) → q < p → texel q ≡ None) → IsEnd Before texel (suc p) t
@@ -94,7 +94,7 @@ end_starts Before f texel p t chooses is none = record {
   reached = λ c few. (p, t, omega arith, is, refl);
 }
 
--- a texel more
+-- the bound after one more texel
 end_moves : (Before : ℕ → ℕ → Type 0) (f : ℕ → ℕ → ℕ) (texel : ℕ → Option Texel) (p : ℕ)
     (t end : Texel) → Chooses Before f → texel p ≡ Some t
     → IsEnd Before texel p end → IsEnd Before texel (suc p) (by_channel f end t)
@@ -113,7 +113,7 @@ end_moves Before f texel p t end chooses here is = record {
       ]);
 }
 
--- ---- both
+-- ---- both bounds
 
 record AreEnds (texel : ℕ → Option Texel) (n : ℕ) (bounds : Box8) : Type 0 where
   low : IsEnd ◌≤◌ texel n bounds.lo

@@ -1,4 +1,4 @@
--- The weights from shared lists are those of the block.
+-- The weights that are computed from shared lists are those of the block.
 use Rattle.std.proofs.Common.{◌≡◌, ℕ, zero, suc, ◌+◌, ◌*◌, ◌/◌, ◌%◌, ◌<◌, ◌≤◌, nat_lt, Bool, true, false, if◌then◌else◌, List, map, length, Option, None, Some, refl, sym, ap, ◌∙◌, arith}
 use Rattle.std.specs.Prelude.{slice_index, slice_index_or}
 use Rattle.std.specs.Option.{IfSome}
@@ -22,7 +22,7 @@ use Rattle.candidates.specs.declared.colours.Palette.{Palette}
 use Rattle.candidates.specs.Pieces.{assembled, IsPalette, no_bounds, bounds_by_part, integers_from, ends_of_part_from, colours_from, ends_from, grid_places, texel_target, place_target, target_map, point_target, of_plane, weight_from, weights_from}
 use Rattle.candidates.proofs.LoopLaws.{point_below}
 
--- ---- the place of a point is a place
+-- ---- the place of a grid point is a place of the block
 
 either_within : (p q n : ℕ) (b : Bool) → p < n → q < n → IfSome (if b then Some p else Some q)
     (λ q. q < n)
@@ -76,7 +76,7 @@ by_place component level plane parts ends places n (Some p) within =
     ∙ by_texel component level plane (slice_index_or places p None)
     (slice_index_or ends (slice_index parts p) no_ends)
 
--- which of the two lists
+-- the list of a plane is the first or the second of two lists
 by_plane : (f : ℕ → List ℕ) (plane : ℕ) → plane < 2 → of_plane plane (f 0) (f 1) ≡ f plane
 by_plane f zero small = refl
 by_plane f (suc zero) small = refl
@@ -135,7 +135,7 @@ weights_from-is w h component mode parts ends places some few =
     places at (point_below at mode.planes (mode.across * mode.down) some (omega arith))
     (omega arith))
 
--- ---- one plane does not read the second list
+-- ---- with one plane, the second list is not read
 
 weight_of_one : (level : Level) (grid : List (Option ℕ)) (first second other : List ℕ) (at : ℕ)
     → weight_from level 1 grid first second at ≡ weight_from level 1 grid first other at
@@ -241,7 +241,7 @@ grid_within w h n m limit places same = λ k d within.
           (omega arith),
     ) (place_within w h n m places k)
 
--- all weights, from the places of the grid and the targets of the planes
+-- all weight integers, from the places of the grid points and the targets of the planes
 pub weights_are : (w h component : ℕ) (mode : Mode) (parts : List ℕ) (ends : List Ends)
     (places : List (Option Texel)) (grid : List (Option ℕ)) (first second weights : List ℕ)
     (count : ℕ)
@@ -264,7 +264,7 @@ weights_are w h component mode parts ends places grid first second weights count
     (target_map component 1 parts ends places (w * h)) some few second_is
     ∙ weights_from-is w h component mode parts ends places some few
 
--- the block from its pieces
+-- the block that is computed from its pieces
 pub coded_on-from : (w h : ℕ) (recipe : Recipe) (mode : Mode) (level : Level) (parts : List ℕ)
     (places : List (Option Texel)) (n : ℕ) (bounds : List Box8) (colours : List ℕ)
     (ends : List Ends) (coded : CodedFields)
@@ -288,7 +288,7 @@ coded_on-from w h recipe mode level parts places n bounds colours ends coded n_i
     ∙ ap (λ es. assembled recipe (colours_of recipe level parts places (w * h))
     (weights_of w h recipe.plane mode parts es places)) all_ends
 
--- the block from its colours and weights, and the candidate that it is
+-- the block with these colours and weights is the candidate of the recipe
 module _ (w h : ℕ) (recipe : Recipe) (mode : Mode) (places : List (Option Texel))
     (palette : Palette) (colours weights : List ℕ) (coded : CodedFields)
     (is : IsPalette w h recipe places palette)

@@ -1,4 +1,4 @@
--- The values of the points of a plane are those of the block's weights.
+-- The unquantized weights of a plane's grid points are those of the block.
 use Rattle.std.proofs.Common.{◌≡◌, ℕ, zero, suc, ◌+◌, ◌*◌, ◌/◌, ◌%◌, ◌<◌, ◌≤◌, List, Option, sym, ap, ◌∙◌, arith}
 use Rattle.std.specs.Prelude.{slice_index}
 use Rattle.std.specs.List.{range_with_len}
@@ -17,7 +17,7 @@ use Rattle.candidates.specs.Pieces.{grid_places, target_map}
 use Rattle.candidates.specs.PointValues.{point_value, plane_values}
 use Rattle.candidates.proofs.PieceLaws.{map_same, by_place, place_within}
 
--- the weights of a point's planes are adjacent
+-- the weights of a point's planes are adjacent in the list
 at_point : (planes plane k : ℕ) → 1 ≤ planes → planes ≤ 2 → plane < planes
     → ((k * planes + plane) / planes ≡ k) × ((k * planes + plane) % planes ≡ plane)
 at_point zero plane k some few below = absurd (omega arith)

@@ -1,4 +1,5 @@
--- If all places are inside, the closest place is the closest column of the closest row.
+-- If all places are inside the image, the closest place is in the closest column and the closest
+-- row.
 use Rattle.std.proofs.Common.{◌≡◌, ℕ, zero, suc, ◌+◌, ◌*◌, ◌/◌, ◌%◌, ◌<◌, ◌≤◌, Bool, true, false, nat_lt, if◌then◌else◌, List, map, Option, None, Some, length, refl, sym, ap, ◌∙◌, arith, inl, inr, add-one, mul_comm, mul-le-mul_right, div-lt_iff_lt-mul}
 use Rattle.std.specs.Prelude.{slice_index, slice_index_or}
 use Rattle.std.specs.Option.{IsSome}
@@ -20,7 +21,7 @@ record IsFirstLeast (f : ℕ → ℕ) (n i : ℕ) : Type 0 where
   least : (j : ℕ) → j < n → f i ≤ f j
   first : (j : ℕ) → j < i → f i < f j
 
--- one number more
+-- a step of the search for the first least value
 one_more : (f : ℕ → ℕ) (n i : ℕ) (b : Bool) → nat_lt (f n) (f i) ≡ b → IsFirstLeast f n i
     → IsFirstLeast f (suc n) (if b then n else i)
 one_more f n i true e is =
@@ -58,7 +59,7 @@ first_least-is f zero = zero_first f (nat_lt (f 0) (f 0)) refl
 first_least-is f (suc n) = one_more f (suc n) (first_least f (suc n))
     (nat_lt (f (suc n)) (f (first_least f (suc n)))) refl (first_least-is f n)
 
--- there is one first least
+-- only one number is the first least
 first_least-one : (f : ℕ → ℕ) (n i j : ℕ) → IsFirstLeast f n i → IsFirstLeast f n j → i ≡ j
 first_least-one f n i j a b = elim (cases_lt i j) [
   | inl before ↦ let less : f j < f i = b.first i before in let h : f i ≤ f j =
@@ -79,7 +80,8 @@ same_row w x y q r within below before = elim (cases_lt y q) [
 same_column : (w x y q r : ℕ) → q ≡ y → q * w + r < y * w + x → r < x
 same_column w x y q r same before = let rows : q * w ≡ y * w = ap (λ k. k * w) same in omega arith
 
--- the sum of a function of the column and one of the row is first least if both are
+-- if f is a sum of a function of the column and one of the row, its first least place is in the
+-- first least column and row
 separate : (A B : ℕ → ℕ) (w h x y : ℕ) → 0 < w → IsFirstLeast A w x → IsFirstLeast B h y
     → y * w + x < h * w → (y * w + x) % w ≡ x → (y * w + x) / w ≡ y
     → IsFirstLeast (λ p. A (p % w) + B (p / w)) (h * w) (y * w + x)
@@ -133,7 +135,7 @@ next_place far p (Some texel) None q inside is = absurd (cc)
 next_place far p (Some texel) (Some r) q inside is = let same : r ≡ q = cc in
     rw same (either_some (nat_lt (far p) (far q)) p q)
 
--- as long as all places are inside
+-- if all places are inside, the search over inside places is a search over all places
 all_inside : (far : ℕ → ℕ) (places : List (Option Texel)) (n : ℕ)
     → ((p : ℕ) → p < suc n → IsSome (slice_index_or places p None))
     → nearest_inside far places (suc n) ≡ Some (first_least far (suc n))
@@ -146,7 +148,7 @@ all_inside far places (suc n) each =
     next_place far (suc n) (slice_index_or places (suc n) None) (nearest_inside far places (suc n))
     (first_least far (suc n)) (each (suc n) (omega arith)) before
 
--- the closest inside place, if all are inside and the distance is a sum over column and row
+-- the closest inside place, if all places are inside and the distance is a sum over column and row
 nearest_of_sides : (A B : ℕ → ℕ) (places : List (Option Texel)) (w h n : ℕ) → 0 < w → 0 < h → suc n
     ≡ h * w → ((p : ℕ) → p < suc n → IsSome (slice_index_or places p None))
     → nearest_inside (λ p. A (p % w) + B (p / w)) places (suc n)
@@ -168,7 +170,7 @@ nearest_of_sides A B places (suc w) (suc h) n some_w some_h whole each =
     ∙ ap Some (first_least-one far (suc n) (first_least far (suc n)) (y * suc w + x) there
     (rw whole here))
 
--- over any number of places that is not 0
+-- the same for a number of places that is known to be above 0
 of_count : (A B : ℕ → ℕ) (places : List (Option Texel)) (w h count : ℕ) → 0 < w → 0 < h → 0 < count
     → count ≡ h * w → ((p : ℕ) → p < count → IsSome (slice_index_or places p None))
     → nearest_inside (λ p. A (p % w) + B (p / w)) places count
@@ -202,7 +204,7 @@ grid_by_sides w h n m places some_w some_h some count each =
     (λ k. sym (point_by_sides w h n m k places some_w some_h some
     (λ p below. each p None (omega arith))))
 
--- a place of a point along a side
+-- the closest place to a grid point along a side, from the list for the side
 pub side_place : (side points others at : ℕ) (items : List ℕ) → items
     ≡ side_places side points others → at < points
     → slice_index items at ≡ nearest_on_side side points others at
@@ -214,7 +216,7 @@ side_place side points others at items is below = ap (λ xs. slice_index xs at) 
 pub point_row : (k n m : ℕ) → 0 < n → k < n * m → k / n < m
 point_row k n m some below = (div-lt_iff_lt-mul some).1 (rw (mul_comm n m) at below)
 
--- a place by columns and rows is one of the block's
+-- the closest place along a side is a place of the side
 least_within : (f : ℕ → ℕ) (n : ℕ) → 0 < n → first_least f n < n
 least_within f zero some = absurd (omega arith)
 least_within f (suc n) some = (first_least-is f n).within

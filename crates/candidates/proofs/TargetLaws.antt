@@ -1,4 +1,4 @@
--- Nearest places, and bounds of the products of differences of bytes.
+-- Steps of the search for the closest place, and bounds on products of differences of bytes.
 use Rattle.std.proofs.Common.{Option, None, List}
 use Rattle.std.specs.Prelude.{slice_index_or}
 use Rattle.astc_model.specs.Places.{Texel}

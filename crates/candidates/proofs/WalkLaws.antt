@@ -1,4 +1,4 @@
--- The walk with the mode outermost meets every candidate.
+-- A walk with the block mode as the outermost loop meets every candidate.
 use Rattle.std.proofs.Common.{ℕ, ◌≤◌, List, Option}
 use Rattle.std.proofs.lemmas.List.Elements.{All-from_recursion, recursion_from_All}
 use Rattle.std.specs.List.{AllByRecursion}

@@ -1,4 +1,4 @@
--- The ends of a part while one of its colour values moves.
+-- The endpoints of a partition as functions of one of its colour values.
 use Rattle.std.proofs.Common.{◌≡◌, ◌≢◌, ◌⊎◌, ℕ, zero, suc, ◌+◌, ◌-◌, ◌*◌, ◌%◌, ◌<◌, ◌≤◌, Bool, true, false, cond, List, [], ◌∷◌, length, get_or, set, take, refl, sym, ap, subst, ◌∙◌, arith, inl, inr}
 use Rattle.std.specs.Prelude.{nat_le, IsTrue}
 use Rattle.std.proofs.lemmas.Bool.{cases_lt, cases_eq, le-leb, lt-leb, ne_eqb}
@@ -18,7 +18,7 @@ use Rattle.colour_bounds.specs.declared.part_scan.PartitionScan.{PartitionScan}
 use Rattle.colour_bounds.specs.Bounds.{AreValueBounds, ends_of, in_order, first_sum, second_sum, order_by_sums, order_of}
 use Rattle.colour_bounds.specs.OneChannel.{is_exchanging}
 
--- ---- the two colours in order move straight
+-- ---- the two colours in order are linear in the value
 
 constant : (n : ℕ) → IsAffine (λ value. n)
 constant n = record { start = n; step = 0; is = λ value. omega arith }
@@ -114,7 +114,8 @@ module _ (values : List ℕ) (place : ℕ) (within : place < length values) wher
         ]
       ]
 
--- ---- they are the ends while their sums do not fall
+-- ---- the two colours in order are the endpoints while the second has at least the sum of the
+-- first
 
 module _ (a b c d e g h i : ℕ) where
   abbrev listed : List ℕ
@@ -138,9 +139,9 @@ module _ (a b c d e g h i : ℕ) where
   unfolding endpoint_colours
   ordered_luminance_alpha = refl
 
--- of two given colours whose sums fall, the contracted second is the first end for all first
--- colours that are greater, and the contracted first is the second end for all second colours that
--- are less
+-- If the colours are exchanged, the contracted second colour stays the first endpoint while the
+-- first colour grows, and the contracted first colour stays the second endpoint while the second
+-- colour decreases.
 first_stays : (v0 v1 v2 v3 v4 v5 a b t0 t2 t4 ta : ℕ) → v1 + v3 + v5 < v0 + v2 + v4
     → v0 + v2 + v4 ≤ t0 + t2 + t4
     → (two_colours v0 v1 v2 v3 v4 v5 a b).0 ≡ (two_colours t0 v1 t2 v3 t4 v5 ta b).0
@@ -161,7 +162,7 @@ second_stays v0 v1 v2 v3 v4 v5 a b z1 z3 z5 zb fall less =
           (omega arith),
     ) refl
 
--- by places
+-- the endpoints by the place of the value
 module _ (a b c d e g h i u : ℕ) where
   abbrev eight : List ℕ
   eight = a ∷ b ∷ c ∷ d ∷ e ∷ g ∷ h ∷ i ∷ []
@@ -212,7 +213,7 @@ module _ (a b c d e g h i u : ℕ) where
             ]
       ]
 
-  -- out of two bounds, over plain numbers
+  -- consequences for a value outside the range, in plain numbers
   by_first : (rest second : ℕ) → (u < 0) ⊎ (second + 1 - rest ≤ u) → second < u + rest
   by_first rest second out = elim out [
     | inl low ↦ absurd (omega (arith, low))
@@ -321,7 +322,7 @@ module _ (values : List ℕ) (place : ℕ) (all : length values ≡ 8) where
   same_entries : entries ≡ values
   same_entries = sym (eight_entries values all)
 
-  -- the sums rise between the bounds, and fall outside them
+  -- the second colour has at least the sum of the first exactly within the range of values
   pub rises : (u : ℕ) → place < 8
       → (order_by_sums place (first_sum (set values place 0)) (second_sum (set values place 0))).0
       ≤ u
@@ -348,7 +349,7 @@ module _ (values : List ℕ) (place : ℕ) (all : length values ≡ 8) where
       → second_sum (set xs place u) < first_sum (set xs place u))
       same_entries (falls_at (v 0) (v 1) (v 2) (v 3) (v 4) (v 5) (v 6) (v 7) u place)
 
-  -- if they fall, one of the ends is the same for all values at a place
+  -- if the colours are exchanged, one endpoint is the same for all values at a place
   pub first_end_stays : (mode u : ℕ) → IsTrue (is_exchanging mode) → place < endpoint_integers mode
       → place % 2 ≡ 0 → u ≤ 255
       → second_sum (set values place u) < first_sum (set values place u)
@@ -383,7 +384,7 @@ module _ (values : List ℕ) (place : ℕ) (all : length values ≡ 8) where
         ]
       ])
 
--- if they rise, the ends are the two colours in order
+-- if the colours are not exchanged, they are the endpoints
 module _ (xs : List ℕ) (all : length xs ≡ 8) where
   abbrev x : ℕ → ℕ
   x k = get_or xs k 0
@@ -422,7 +423,7 @@ module _ (mode place : ℕ) (values : List ℕ) (all : length values ≡ 8)
   still_eight : (u : ℕ) → length (set values place u) ≡ 8
   still_eight u = length-set values place u ∙ all
 
-  -- the bounds of a mode
+  -- the range of values of an endpoint mode
   abbrev bounds_if : Bool → ℕ × ℕ
   bounds_if b = cond b (order_by_sums place (first_sum (set values place 0))
       (second_sum (set values place 0))) (0, 0)
@@ -466,12 +467,12 @@ module _ (mode place : ℕ) (values : List ℕ) (all : length values ≡ 8)
         ]
       ]
 
--- ---- what value bounds say
+-- ---- consequences of value bounds
 
 pub small_place : (mode place : ℕ) → mode < 16 → place < endpoint_integers mode → place < 8
 small_place mode place small within = omega arith
 
--- no form is below 0
+-- forms are at least 0
 pub above_nothing : (tables : Tables) (floor : PartitionFloor) (ends : Ends)
     → AreForms tables floor ends → form_less tables floor ends + 0 ≤ form_more tables floor ends
 above_nothing tables floor ends forms =

@@ -1,4 +1,4 @@
--- If the form with a value of a colour integer is far, the value is not better.
+-- If the form with a value of a colour integer is far, the value does not reduce the error.
 use Rattle.std.proofs.Common.{◌≡◌, ℕ, ◌+◌, ◌-◌, ◌*◌, ◌<◌, ◌≤◌, refl, arith}
 use Rattle.std.specs.Prelude.{sum_by}
 use Rattle.astc_model.specs.CodedTexels.{part_colours}
@@ -30,7 +30,7 @@ module _ (w h : ℕ) (scan : PartitionScan) (place value : ℕ) (is : IsPartScan
     error = error_in w h (state_of scan)
         (Coded (with_colour scan.tables.now.block (integer_of scan place) value))
 
-    -- what the errors of the part's places with the value are in the block's error
+    -- the error of the block with the value, from the errors of the partition's places
     pub exchange : error + scan.floor.taken ≡ scan.tables.now.total + sum_by
         (coloured scan.tables.now ends) scan.reach.now
     exchange =

@@ -1,4 +1,4 @@
--- The form along straight ends is a quadratic, and three of its values give it.
+-- The form along linear endpoints is a quadratic polynomial, which three of its values determine.
 use Rattle.std.proofs.Common.{◌≡◌, ℕ, ◌+◌, ◌-◌, ◌*◌, ◌<◌, ◌≤◌, get_or, sym, subst, arith, inl, inr}
 use Rattle.std.proofs.lemmas.Bool.{cases_lt}
 use Rattle.std.proofs.Math.Nat.{mul-le-mul_left}
@@ -100,7 +100,7 @@ module _ (m : Moments) (f g : ℕ → ℕ) (first : IsAffine f) (second : IsAffi
           ≡ 2 * (p * uz + r * wz) + 2 * (q * uz + s * wz) * u
       plain p q r s u uz wz = omega arith
 
--- of channels that are not scaled and count more or less
+-- the form of a channel with a weight
 module _ (share k : ℕ) (m : Moments) (f g : ℕ → ℕ) (first : IsAffine f) (second : IsAffine g) where
   channel_more : IsQuadratic (λ value. share * more_of m (k * f value) (k * g value))
   channel_more =
@@ -164,7 +164,7 @@ module _ (tables : Tables) (floor : PartitionFloor) (ends : ℕ → Ends)
       (channel_less (share 3) (factor 3) floor.alpha (λ value. channel 3 (ends value).0)
       (λ value. channel 3 (ends value).1) straight.first_alpha straight.second_alpha)
 
--- ---- a value between two that are near is near
+-- ---- a value between two near values is near
 
 near_between : (a b c d e m x s t : ℕ) → 0 < s + t → a * (x * x) + b * x + c < d * x + e + m
     → a * ((x + s + t) * (x + s + t)) + b * (x + s + t) + c < d * (x + s + t) + e + m
@@ -194,7 +194,7 @@ module _ (curve : Curve) (most : ℕ) where
       (near_between curve.square curve.slope curve.start curve.less_slope curve.less_start most x
       (y - x) (z - y) (omega arith) first (subst IsNear end last))
 
-  -- a value that is far is followed by far values, away from a near one
+  -- on the side away from a near value, all values beyond a far one are far
   pub far_below : (value far near : ℕ) → value ≤ far → far < near
       → curve_less curve far + most ≤ curve_more curve far → IsNear near
       → curve_less curve value + most ≤ curve_more curve value

@@ -1,5 +1,5 @@
--- The values at the place of an offset: while their top bit stays, one end rises with the offset,
--- and the other end stays; which values are in a trend.
+-- The values of an offset: while the top bit stays, one endpoint rises with the offset and the
+-- other stays; and the trend of each value.
 use Rattle.std.proofs.Common.{◌≡◌, ◌≢◌, ◌⊎◌, ℕ, zero, suc, ◌+◌, ◌/◌, ◌%◌, ◌<◌, ◌≤◌, Bool, true, false, List, [], ◌∷◌, length, set, refl, sym, ap, subst, arith, inl, inr}
 use Rattle.std.specs.Prelude.{IsTrue, ℤ, pos, negsuc, ◌+ℤ◌, ◌-ℤ◌, ◌≤ℤ◌, int_le, bit_and, bit_or, if◌then◌else◌}
 use Rattle.std.specs.Int.{int_shr}
@@ -24,7 +24,7 @@ six_low a low = rw (lt-ltb a 32 low) refl
 six_high : (a : ℕ) → 32 ≤ a → six_bit_signed a ≡ pos a -ℤ pos 64
 six_high a high = rw (le-ltb a 32 high) refl
 
--- offsets rise with the keys of their values
+-- six bits as a signed number rise with (a + 32) % 64
 six_rises : (a b : ℕ) → a < 64 → b < 64 → (a + 32) % 64 ≤ (b + 32) % 64
     → six_bit_signed a ≤ℤ six_bit_signed b
 six_rises a b small also rise =
@@ -54,7 +54,7 @@ greatest_offset value =
       | inr high ↦ rw (six_high (value / 2 % 64) high) (omega (arith, ints))
     ]
 
--- what rises with a whole number
+-- clamping keeps the order
 clamp_rises : (x y : ℤ) → x ≤ℤ y → clamp_byte x ≤ clamp_byte y
 clamp_rises (pos n) (pos m) order = omega (arith, ints, order)
 clamp_rises (pos n) (negsuc m) order = absurd (omega (arith, ints, order))
@@ -79,7 +79,7 @@ module _ (x y s t : ℤ) (order : x ≤ℤ y) where
   last_rises : (s +ℤ x) ≤ℤ (s +ℤ y)
   last_rises = omega (arith, ints, order)
 
--- a sum that is not below 0, and one that is no less
+-- a number that is not less than a non-negative one is non-negative
 still_rises : (x y : ℤ) → x ≤ℤ y → int_le (pos 0) x ≡ true → int_le (pos 0) y ≡ true
 still_rises (pos n) (pos m) order rise = le-leb 0 m (omega arith)
 still_rises (pos n) (negsuc m) order rise = absurd (omega (arith, ints, order))

@@ -1,4 +1,4 @@
--- The ends of a part while a value moves one of their channels.
+-- The endpoints of a partition while a value moves one of their channels.
 use Rattle.std.proofs.Common.{◌≡◌, ◌≢◌, ℕ, zero, suc, ◌+◌, ◌/◌, ◌<◌, Bool, true, false, List, [], ◌∷◌, length, set, refl, sym, ap, subst, ◌∙◌, arith, inl, inr}
 use Rattle.std.specs.Prelude.{IsTrue, slice_index, ℤ, pos, if◌then◌else◌}
 use Rattle.std.proofs.lemmas.Bool.{cases_eq, ne_eqb}
@@ -14,7 +14,7 @@ use Rattle.colour_bounds.specs.OneChannel.{moves_one, moved_channel, moved_ends,
 use Rattle.colour_bounds.specs.declared.one_channel.Trend.{Trend}
 use Rattle.colour_bounds.specs.declared.one_channel.Trend.TheVariants.{Rising, Falling}
 
--- ends of bases and offsets that rise
+-- the endpoints of modes 9 and 13 if the sum of the offsets is not negative
 rising_ends : (v : ℕ → ℕ) (a b : ℤ) → is_rising v ≡ true
     → base_offset v a b ≡ (
       clamped (base v 0) (base v 2) (base v 4) a,
@@ -73,7 +73,7 @@ abbrev rgba_moves : (v k : ℕ → ℕ) (c : ℕ) (pair : ℕ × ℕ) → is_ris
 rgba_moves v k = rising_moves v k (base v 6) (base_with_offset v 6) (base k 6)
     (base_with_offset k 6)
 
--- colours that rise
+-- the endpoints of modes 8 and 12 if the colours are not exchanged
 rising_colours : (v : ℕ → ℕ) (a b : ℕ) → is_ascending v ≡ true → direct v a b
     ≡ (v 0 ∷ v 2 ∷ v 4 ∷ a ∷ [], v 1 ∷ v 3 ∷ v 5 ∷ b ∷ [])
 rising_colours v a b rise = rw rise refl
@@ -90,7 +90,7 @@ colours_move v k a b l m c pair rise still same = record {
   second_four = rw (rising_colours k l m still) refl;
 }
 
--- colours and offsets that fall
+-- the endpoints if the colours are exchanged
 pub turned : (r : Bool) → (if r then false else true) ≡ true → r ≡ false
 turned true is = absurd (cc)
 turned false is = refl
@@ -496,7 +496,8 @@ module _ (a b c d e g h i u k : ℕ) where
   in_order Rising mode place = of_mode mode place
   in_order Falling mode place = of_falling_mode mode place
 
--- with two values in one order that both move one channel alone the ends differ in that one
+-- for two values with the same trend that move one channel, the endpoints differ in this channel
+-- only
 pub moves : (trend : Trend) (mode place u k : ℕ) (values : List ℕ) → length values ≡ 8
     → place < endpoint_integers mode
     → IsTrue (moves_one trend mode (set values place u) place)
@@ -521,7 +522,7 @@ channel_small trend mode place values small on =
       ]
     ]
 
--- the form of the ends is that without the channel and what the channel adds
+-- the form is that without the channel, plus the term of the channel
 cancelled : (form others kept own whole : ℕ) → form + kept ≡ whole + own → others + kept ≡ whole
     → form ≡ others + own
 cancelled form others kept own whole moved without = omega (arith, moved, without)

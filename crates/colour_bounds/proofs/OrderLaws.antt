@@ -1,4 +1,4 @@
--- The ranks at the positions of an order; the order of the offsets.
+-- The ranks at the positions of an order, and the order of the offsets.
 use Rattle.std.proofs.Common.{◌≡◌, ◌⊎◌, ℕ, ◌+◌, ◌-◌, ◌/◌, ◌%◌, ◌<◌, ◌≤◌, refl, sym, ap, subst, ◌∙◌, arith, inl, inr}
 use Rattle.std.proofs.lemmas.Bool.{cases_lt, lt-ltb, le-ltb}
 use Rattle.astc_model.specs.ColourValues.{colour_value}
@@ -31,7 +31,7 @@ rank_within order at turns within =
           (omega (arith, is), omega (arith, is, high, turns, within))
     ]
 
--- two positions have two ranks
+-- two positions have different ranks
 pub one_position : (order : WalkOrder) (j k : ℕ) → order.turn < order.count → j < order.count
     → k < order.count → rank_on order j ≡ rank_on order k → j ≡ k
 one_position order j k turns first second same =
@@ -97,7 +97,7 @@ module _ (level : Level) (order : WalkOrder) (is : IsOrder (count_of level) orde
   rank_of_position at within =
       rank_of_integer level (rank_on order at) some (rank_below at within)
 
-  -- an integer whose rank an order takes is at its position
+  -- an integer with a rank of the order is at the position of this rank
   pub integer_is : (value : ℕ) → value < count_of level
       → order.from ≤ rank_of (count_of level) value
       → rank_of (count_of level) value < order.from + order.count
@@ -115,9 +115,9 @@ whole_is count some = record { fits = omega arith; turns = omega (arith, some) }
 pub whole_rank : (count at : ℕ) → at < count → rank_on (whole_order count) at ≡ at
 whole_rank count at within = early (whole_order count) at (omega (arith, within)) ∙ omega arith
 
--- ---- the values with one top bit, in the order of the offsets
+-- ---- the values with the same top bit, in the order of the offsets
 
--- a value with the bits of an offset as a number that rises with it
+-- the key of a value: a number that rises with the offset that the value encodes
 abbrev pub key : ℕ → ℕ
 key value = (value + 64) % 128
 
@@ -168,7 +168,7 @@ module _ (level : Level) (some : 6 ≤ count_of level) where
         | inr high ↦ rw (high_half rank high) (omega (arith, high), omega (arith, range, even))
       ]
 
-  -- the top bit
+  -- the top bit of the values in the lower half of the ranks is 0
   pub low_values : (rank : ℕ) → rank < count / 2 → byte_at rank < 128
   low_values rank low =
       elim (cases_lt rank ((count + 3) / 4)) [
@@ -325,7 +325,7 @@ module _ (level : Level) (some : 6 ≤ count_of level) where
           (subst (λ n. key (byte_at r) ≤ key (byte_at n)) (sym s_is)
           (high_keys r s range also high too stays before behind))
 
-  -- offsets rise with the positions
+  -- the keys, and so the offsets, rise with the positions
   pub keys_rise : (rank j k : ℕ) → j ≤ k → k < (half_order count rank).count
       → key (byte_at (rank_on (half_order count rank) j))
       ≤ key (byte_at (rank_on (half_order count rank) k))
@@ -335,7 +335,7 @@ module _ (level : Level) (some : 6 ≤ count_of level) where
         | inr high ↦ rw (high_half rank high) (high_rises j k order)
       ]
 
-  -- the values of a half have one top bit, and all others have the other one
+  -- the values of one half of the ranks have the same top bit, those of the other half the other
   low_top : (rank : ℕ) → rank < count / 2 → byte_at rank / 128 ≡ 0
   low_top rank low = omega (arith, low_values rank low)
 

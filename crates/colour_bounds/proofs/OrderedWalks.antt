@@ -1,4 +1,4 @@
--- The orders in which an end rises, and the values that a walk leaves out.
+-- The orders along which an endpoint rises, and the values that a walk leaves out.
 use Rattle.std.proofs.Common.{◌≡◌, ◌≢◌, ◌⊎◌, ℕ, ◌+◌, ◌*◌, ◌/◌, ◌%◌, ◌<◌, ◌≤◌, Bool, length, get_or, set, Option, None, Some, refl, sym, ap, subst, ◌∙◌, arith, inl, inr}
 use Rattle.std.specs.Prelude.{IsTrue, IfSome, bit_and, nat_eq}
 use Rattle.std.proofs.lemmas.Bool.{cases_Bool, eqb-true}
@@ -26,7 +26,7 @@ use Rattle.colour_bounds.proofs.SingleChannelLaws.{present_range}
 
 -- ---- all values
 
--- what rises with the values rises with their ranks
+-- an endpoint that rises with the values rises with their ranks
 pub whole_rises : (scan : PartitionScan) (trend : Trend) (place : ℕ) (is_first : Bool)
     → length scan.values ≡ 8 → 6 ≤ count_of scan.tables.now.level
     → RisesAlong scan.cem trend place is_first

@@ -1,4 +1,4 @@
--- A colour integer of a part that is scanned, and the ends with another value of it.
+-- A colour integer of a partition, and the endpoints with another value of it.
 use Rattle.std.proofs.Common.{◌≡◌, ℕ, ◌+◌, ◌<◌, ◌≤◌, List, length, get_or, set, take, drop, map, sym, ap, ◌∙◌, arith, Option, None, Some}
 use Rattle.std.proofs.lemmas.List.{drop-set-add, map-set, get_or-take, get_or-map, get_or-drop, length-map, length-take-le}
 use Rattle.std.proofs.Math.Seq.{take-set-lt}
@@ -21,7 +21,7 @@ use Rattle.astc_model.specs.Places.{channel}
 use Rattle.colour_bounds.specs.PartScans.{IsPartScan, integer_of}
 use Rattle.colour_bounds.specs.declared.part_scan.PartitionScan.{PartitionScan}
 
--- the partition has the integer at a place among its integers
+-- the integer at a place belongs to the partition
 pub has_integer : (w h : ℕ) (scan : PartitionScan) (place : ℕ) → IsPartScan w h scan
     → place < endpoint_integers scan.cem
     → HasColour scan.tables.now.block scan.part (integer_of scan place)
@@ -33,7 +33,7 @@ has_integer w h scan place is within = record {
       rw is.mode_is at within in omega (arith, here);
 }
 
--- the values of a part with one of them replaced
+-- the values of a partition after one is replaced
 colour_values : (f : ℕ → ℕ) (items : List ℕ) (k n j v : ℕ) → j < n
     → map f (take n (drop k (set items (k + j) v))) ≡ set (map f (take n (drop k items))) j (f v)
 colour_values f items k n j v below =
@@ -41,7 +41,7 @@ colour_values f items k n j v below =
     ∙ ap (map f) (take-set-lt n (drop k items) j v below)
     ∙ map-set f (take n (drop k items)) j v
 
--- the ends of a part with one of its colour integers at another value
+-- the endpoints of a partition after one of its colour integers is replaced
 pub colour_ends-is : (block : CodedFields) (level : Level) (q j v cem : ℕ) (values : List ℕ) → cem
     ≡ get_or block.cems q 0 → j < endpoint_integers cem → values ≡ part_values block level q
     → endpoint_colours cem (set values j (colour_value level v))
@@ -52,7 +52,7 @@ colour_ends-is block level q j v cem values cem_is within values_are =
     (sym (colour_values (colour_value level) block.colours.items (colour_count q block.cems)
     (endpoint_integers (get_or block.cems q 0)) j v (rw cem_is at within))))
 
--- what is tried under a limit is at most what the limit is
+-- an error that is computed under a limit is below the limit
 pub tried-le : (limit total e : ℕ) (tried : Option ℕ) → tried ≡ under limit e → limit ≤ total
     → IfSome tried (λ error. error ≤ total)
 tried-le limit total e None is less = tt

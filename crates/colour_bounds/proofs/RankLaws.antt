@@ -9,7 +9,7 @@ use Rattle.astc_model.specs.declared.level.Level.TheVariants.{Two, Three, Four, 
 use Rattle.astc_model.proofs.SumLaws.{every_below}
 use Rattle.colour_bounds.specs.Ranks.{integer_at, rank_of}
 
--- what is true at each number below the count of a level
+-- the properties that are tested for each number below the count of a level
 abbrev ranks_at : Level → ℕ → Bool
 ranks_at level k = nat_lt (integer_at (count_of level) k) (count_of level)
     && nat_lt (rank_of (count_of level) k) (count_of level)
@@ -23,8 +23,7 @@ rising_at level k = nat_le (count_of level) (k + 1)
     || nat_lt (colour_value level (integer_at (count_of level) k))
     (colour_value level (integer_at (count_of level) (k + 1)))
 
--- half of the values have the top bit, and a quarter of them, or one more of those without it, have
--- not the next one
+-- half of the values have the top bit 0; a quarter of all, rounded up, also have the next bit 0
 abbrev quarter : (count k : ℕ) → ℕ
 quarter count k =
     if nat_lt k ((count + 3) / 4) then 0 else
@@ -120,7 +119,7 @@ module _ (level : Level) (k : ℕ) (some : 6 ≤ count_of level) (lt : k < count
       second true y off is = absurd (cc)
       second false y off is = is
 
--- the values of a quarter of the ranks
+-- the two top bits of the values by rank
 module _ (x n k : ℕ) (is : x ≡ quarter n k) where
   first_of : k < (n + 3) / 4 → x ≡ 0
   first_of low = is ∙ rw (lt-ltb k ((n + 3) / 4) low) refl
@@ -194,7 +193,7 @@ values_rise_strictly level a b some less lt =
     let rest = values_rise level (a + 1) b some (omega (arith, less)) lt in
     omega (arith, next, rest)
 
--- an integer of a higher rank has no lesser value
+-- ranks rise with values
 pub ranks_rise : (level : Level) (i j : ℕ) → 6 ≤ count_of level → i < count_of level
     → j < count_of level
     → rank_of (count_of level) i ≤ rank_of (count_of level) j

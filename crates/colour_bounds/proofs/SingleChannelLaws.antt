@@ -1,4 +1,4 @@
--- The errors of a part while one value moves one channel.
+-- The errors of a partition while a value moves one channel.
 use Rattle.std.proofs.Common.{◌≡◌, ℕ, zero, suc, ◌+◌, ◌*◌, ◌<◌, ◌≤◌, List, [], ◌∷◌, length, get_or, set, take, refl, sym, ap, subst, ◌∙◌, arith}
 use Rattle.std.specs.Prelude.{sum_by, IsTrue}
 use Rattle.std.proofs.lemmas.List.{get_or-set_same, get_or-take, set-get_or}
@@ -28,7 +28,7 @@ use Rattle.colour_bounds.proofs.BoundLaws.{small_place}
 use Rattle.colour_bounds.proofs.OneChannelLaws.{moves, channel_small}
 use Rattle.colour_bounds.proofs.PartScanLaws.{has_integer}
 
--- the errors of the partition's places are those of its present ends
+-- the errors of the partition's places are those of its present endpoints
 
 module _ (w h : ℕ) (scan : PartitionScan) (place : ℕ) (is : IsPartScan w h scan)
     (within : place < endpoint_integers scan.cem) where
@@ -131,7 +131,7 @@ module _ (tables : Tables) (reach : List ℕ) where
       )) (sym (four_entries ys also_four))
       (moves_at pair _ _ _ _ _ _ _ _ c within))
 
-  -- a part of the sum is at most the sum
+  -- the share of a channel is at most the sum over all channels
   pub channel_within : (c : ℕ) (ends : Ends) → c < 4 → channel_sum c (get_or ends.0 c 0)
       (get_or ends.1 c 0) ≤ sum_by (coloured tables ends) reach
   channel_within zero ends within = rw (coloured_sum tables ends reach) (omega arith)
@@ -195,7 +195,7 @@ module _ (w h : ℕ) (scan : PartitionScan) (trend : Trend) (place : ℕ) (is : 
       (get_or (ends present).1 c 0) ≡ single_channel_of scan trend place present
   own_now = rw (first_now, second_now) refl
 
-  -- the channel that a value moves while the values rise
+  -- the share of the channel that the value moves
   pub single_channel_is : (kept : ℕ) → kept ≡ single_channel_of scan trend place present
       → IsSingleChannel scan trend place kept
   single_channel_is kept kept_is = record {

@@ -1,4 +1,4 @@
--- The ends of a part while a value moves red, green and blue of one of them.
+-- The endpoints of a partition while a value moves red, green and blue of one of them.
 use Rattle.std.proofs.Common.{◌≡◌, ◌≢◌, ℕ, zero, suc, ◌+◌, ◌*◌, ◌%◌, ◌<◌, true, false, List, [], ◌∷◌, length, set, refl, sym, ap, subst, ◌∙◌, arith, inl, inr}
 use Rattle.std.specs.Prelude.{IsTrue, slice_index, pos, if◌then◌else◌}
 use Rattle.std.proofs.lemmas.Bool.{cases_eq, ne_eqb, eqb-true}
@@ -12,7 +12,7 @@ use Rattle.colour_bounds.specs.Bounds.{ends_of}
 use Rattle.colour_bounds.specs.ThreeChannels.{moves_three, moved_red, moved_green, moved_blue, with_colour_at}
 use Rattle.colour_bounds.proofs.OneChannelLaws.{turned, falling_colours}
 
--- colours whose sums fall
+-- colours that the decoder exchanges
 direct_moves : (v k : ℕ → ℕ) (a b l m place red green blue : ℕ)
     → (if is_ascending v then false else true) ≡ true → (if is_ascending k then false else true)
     ≡ true
@@ -109,7 +109,7 @@ module _ (a b c d e g h i u k : ℕ) where
         ]
       ]
 
--- with two values that both move three channels the ends differ in these
+-- for two values that both move three channels, the endpoints differ in these only
 pub moves : (mode place u k : ℕ) (values : List ℕ) → length values ≡ 8
     → place < endpoint_integers mode
     → IsTrue (moves_three mode (set values place u) place)
@@ -127,7 +127,7 @@ moves mode place u k values all within =
     (ends_of mode xs place k))
     (sym (eight_entries values all)) (of_mode _ _ _ _ _ _ _ _ u k mode place within)
 
--- the forms of the four channels are that of ends with three of them replaced
+-- the form of endpoints with three channels replaced is the sum of the forms of the channels
 module _ (tables : Tables) (floor : PartitionFloor) (place r g b : ℕ) (ends : Ends) where
   pub first_more : place % 2 ≡ 1 → form_more tables floor (with_colour_at place r g b ends)
       ≡ channel_more tables floor 0 r (slice_index ends.1 0)
@@ -157,7 +157,7 @@ module _ (tables : Tables) (floor : PartitionFloor) (place r g b : ℕ) (ends : 
       + channel_less tables floor 3 (slice_index ends.0 3) (slice_index ends.1 3)
   second_less other = rw (ne_eqb (place % 2) 1 other) refl
 
--- the sum of three channels, of which the first has alpha with it
+-- the sum of the terms of red, green and blue, if that of red contains alpha
 pub with_alpha : (whole red green blue alpha own r g b none nothing : ℕ) → whole
     ≡ red + green + blue → red ≡ own + r → green ≡ none + g → blue ≡ nothing + b → own ≡ alpha
     → none ≡ 0 → nothing ≡ 0 → whole ≡ r + g + b + alpha
@@ -165,7 +165,7 @@ with_alpha whole red green blue alpha own r g b none nothing whole_is red_is gre
     own_is none_is nothing_is =
     omega (arith, whole_is, red_is, green_is, blue_is, own_is, none_is, nothing_is)
 
--- the same of exchanged channels
+-- the same sum for exchanged endpoints
 pub with_alpha_exchanged : (whole x y z red green blue alpha own r g b none nothing : ℕ) → whole
     ≡ x + y + z → x ≡ red → y ≡ green → z ≡ blue → red ≡ own + r → green ≡ none + g
     → blue ≡ nothing + b → own ≡ alpha → none ≡ 0 → nothing ≡ 0 → whole ≡ r + g + b + alpha
@@ -174,20 +174,20 @@ with_alpha_exchanged whole x y z red green blue alpha own r g b none nothing who
     with_alpha whole red green blue alpha own r g b none nothing
     (omega (arith, whole_is, x_is, y_is, z_is)) red_is green_is blue_is own_is none_is nothing_is
 
--- three channels by their ends that move and the others
+-- the sum of three channels, each split into the terms of the moved endpoint and of the other
 pub three_together : (er eg eb xr xg xb tr tg tb sr sg sb red green blue : ℕ) → er + xr + tr ≡ red
     → eg + xg + tg ≡ green → eb + xb + tb ≡ blue → sr ≡ xr + tr → sg ≡ xg + tg → sb ≡ xb + tb
     → er + eg + eb + (sr + sg + sb) ≡ red + green + blue
 three_together er eg eb xr xg xb tr tg tb sr sg sb red green blue red_is green_is blue_is sr_is
     sg_is sb_is = omega (arith, red_is, green_is, blue_is, sr_is, sg_is, sb_is)
 
--- a channel by its first end
+-- the term of a channel as a function of its first endpoint
 pub by_first_more : (square product other start first second : ℕ)
     → square * (first * first) + product * second * first + other * (second * second) + start
     ≡ square * (first * first) + product * (first * second) + other * (second * second) + start
 by_first_more square product other start first second = omega arith
 
--- channels without moments add nothing
+-- channels whose moments are 0 add nothing
 pub alone_more : (red green blue alpha a b c d e g : ℕ)
     → red * (a * a * 0 + 2 * (a * b * 0) + b * b * 0 + 0) + green
     * (c * c * 0 + 2 * (c * d * 0) + d * d * 0 + 0) + blue

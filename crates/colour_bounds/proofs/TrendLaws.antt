@@ -1,5 +1,5 @@
--- While values at a place stay in their trend, one of the two ends rises with them; which values
--- are in a trend.
+-- While the values at a place keep their trend, one of the endpoints rises with them; and the trend
+-- of each value.
 use Rattle.std.proofs.Common.{◌≡◌, ◌≢◌, ◌⊎◌, ℕ, zero, suc, ◌/◌, ◌%◌, ◌==◌, ◌<◌, ◌≤◌, Bool, true, false, List, [], ◌∷◌, length, set, refl, sym, ap, subst, ◌∙◌, arith, inl, inr}
 use Rattle.std.specs.Prelude.{IsTrue, pos, ◌+ℤ◌, if◌then◌else◌, bit_and, bit_or, nat_eq}
 use Rattle.std.specs.Int.{int_shr}
@@ -15,7 +15,7 @@ use Rattle.colour_bounds.specs.declared.one_channel.Trend.{Trend}
 use Rattle.colour_bounds.specs.declared.one_channel.Trend.TheVariants.{Rising, Falling}
 use Rattle.colour_bounds.proofs.BoundLaws.{rises, falls}
 
--- a half of a sum, clamped
+-- half of a sum, clamped, rises with the first number
 half_rises : (u v b : ℕ) → u ≤ v
     → clamp_byte (int_shr (pos u +ℤ pos b) 1) ≤ clamp_byte (int_shr (pos v +ℤ pos b) 1)
 half_rises u v b le = omega (arith, le)
@@ -23,7 +23,7 @@ half_rises u v b le = omega (arith, le)
 clamped_rises : (u v : ℕ) → u ≤ v → clamp_byte (pos u) ≤ clamp_byte (pos v)
 clamped_rises u v le = omega (arith, le)
 
--- the modes by their kind
+-- the endpoint modes of each kind
 pub scaling_is : (mode : ℕ) → IsTrue (is_scaling mode) → (mode ≡ 6) ⊎ (mode ≡ 10)
 scaling_is mode on = elim (cases_eq mode 6) [
   | inl six ↦ inl six
@@ -42,7 +42,7 @@ exchanging_is mode on = elim (cases_eq mode 8) [
   | inr other ↦ inr (eqb-true mode 12 (rw (ne_eqb mode 8 other) at on))
 ]
 
--- ---- by places
+-- ---- by the place of the value
 
 module _ (a b c d e g h i u v : ℕ) (le : u ≤ v) where
   abbrev eight : List ℕ
@@ -294,7 +294,7 @@ bases_fall mode place mode_is within even =
 
 -- ---- values in a trend
 
--- a mode with a scale has one trend at a place
+-- the trend of a mode with a scale does not change
 pub stays : (mode place : ℕ) (trend : Trend) (xs ys : List ℕ) → (mode ≡ 6) ⊎ (mode ≡ 10)
     → IsTrue (moves_one trend mode xs place) → IsTrue (moves_one trend mode ys place)
 stays mode place Rising xs ys mode_is = elim mode_is [
@@ -337,7 +337,7 @@ module _ (mode place : ℕ) (values : List ℕ) (all : length values ≡ 8) (sma
         | inr high ↦ inl (omega (arith, high, byte))
       ]
 
--- a value that is not in a trend is in the other one
+-- a value that does not have a trend has the other one
 pub is_turned : (trend : Trend) (mode place : ℕ) (values : List ℕ) → (mode ≡ 8) ⊎ (mode ≡ 12)
     → place / 2 ≢ 2 → moves_one trend mode values place ≡ false
     → IsTrue (moves_one (turned trend) mode values place)
@@ -364,14 +364,14 @@ is_turned trend mode place values mode_is other = elim mode_is [
     of_twelve Rising off = rw (ne_eqb (place / 2) 2 other) (flip _ off)
     of_twelve Falling off = back _ (rw (ne_eqb (place / 2) 2 other) at off)
 
--- a blue of colours that fall moves three channels
+-- in the falling trend, a value that moves one channel is not blue
 pub not_blue : (mode place : ℕ) (values : List ℕ) → IsTrue (moves_one Falling mode values place)
     → place / 2 ≢ 2
 not_blue mode place values on = λ same.
     let no : false ≡ true = rw same at on in
     absurd (cc)
 
--- so a blue of colours that rise, with a value that is not in their trend, has falling colours
+-- a blue value without the trend of the present one gives exchanged colours
 pub blue_falls : (trend : Trend) (mode place : ℕ) (present values : List ℕ)
     → (mode ≡ 8) ⊎ (mode ≡ 12) → place / 2 ≡ 2 → IsTrue (moves_one trend mode present place)
     → moves_one trend mode values place ≡ false → second_sum values < first_sum values
@@ -382,7 +382,7 @@ blue_falls Rising mode place present values mode_is blue on = elim mode_is [
 blue_falls Falling mode place present values mode_is blue on =
     absurd (not_blue mode place present on blue)
 
--- bases do not change the trend of offsets
+-- a base does not change the trend of offsets
 module _ (a b c d e g h i u v : ℕ) where
   abbrev offsets : List ℕ
   offsets = a ∷ b ∷ c ∷ d ∷ e ∷ g ∷ h ∷ i ∷ []

@@ -1,4 +1,4 @@
--- The integers of the level of 256 values.
+-- The values of the integers at level 256.
 use Rattle.std.proofs.Common.{◌≡◌, ℕ, ◌<◌, refl, arith}
 use Rattle.std.specs.Prelude.{nat_eq}
 use Rattle.std.proofs.lemmas.Bool.{eqb-true}
@@ -8,7 +8,7 @@ use Rattle.astc_model.specs.declared.level.Level.{Level}
 use Rattle.astc_model.specs.declared.level.Level.TheVariants.{Two, Three, Four, Five, Six, Eight, Ten, Twelve, Sixteen, Twenty, TwentyFour, ThirtyTwo, Forty, FortyEight, SixtyFour, Eighty, NinetySix, OneTwentyEight, OneSixty, OneNinetyTwo, TwoFiftySix}
 use Rattle.astc_model.proofs.SumLaws.{every_below}
 
--- the integers of the level of 256 are their own values
+-- at level 256 each integer is its own value
 pub whole_value : (level : Level) (value : ℕ) → count_of level ≡ 256 → value < 256
     → colour_value level value ≡ value
 unfolding colour_value

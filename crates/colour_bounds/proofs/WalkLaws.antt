@@ -1,4 +1,4 @@
--- From a value that is far, away from the present one, no value that moves one channel is better.
+-- Beyond a far value, away from the present one, no value that moves one channel reduces the error.
 use Rattle.std.proofs.Common.{◌≡◌, ◌≢◌, ℕ, ◌+◌, ◌-◌, ◌*◌, ◌^◌, ◌<◌, ◌≤◌, Bool, true, false, get_or, set, sym, ap, subst, ◌∙◌, arith, inl, inr}
 use Rattle.std.specs.Prelude.{sum_by}
 use Rattle.std.proofs.lemmas.Bool.{cases_lt, cases_Bool}
@@ -31,7 +31,7 @@ use Rattle.colour_bounds.proofs.SingleChannelLaws.{present_range}
 use Rattle.colour_bounds.proofs.BoundTrial.{exchange}
 use Rattle.colour_bounds.proofs.CurveLaws.{far_above, far_below}
 
--- ---- the bound of one end is convex in it
+-- ---- the bound by one endpoint is convex in it
 
 module _ (m : Moments) (k most : ℕ) (convex : IsConvex m) where
   abbrev over : ℕ
@@ -83,7 +83,7 @@ module _ (m : Moments) (k most : ℕ) (convex : IsConvex m) where
       → curve_more bound x < curve_less bound x + m.second_squares * most
   near_is x near = omega (arith, near, plus_is x, minus_is x)
 
-  -- away from a near end, all ends beyond a far one are far
+  -- away from a near endpoint, all endpoints beyond a far one are far
   pub ends_above : (x y z : ℕ)
       → plus_at m (k * x) < minus_at m (k * x) + m.second_squares * most
       → x ≤ y → y ≤ z → IsEndFar m (k * y) most → IsEndFar m (k * z) most
@@ -108,7 +108,7 @@ module _ (m : Moments) (k most : ℕ) (convex : IsConvex m) where
             absurd (omega (arith, near, subst (λ n. IsEndFar m (k * n) most) same far))
       ]
 
--- ---- a far end gives the channel at least its present error
+-- ---- with a far endpoint the channel has at least its present error
 
 more_turned : (m : Moments) (x y : ℕ) → more_of (swapped m) y x ≡ more_of m x y
 more_turned m x y = plain m.first_squares m.products m.second_squares m.target_squares
@@ -132,7 +132,7 @@ far_form false m k most ends some far =
     rw (← more_turned m (k * ends.0) (k * ends.1), ← less_turned m (k * ends.0) (k * ends.1))
     (end_law (swapped m) (k * ends.1) (k * ends.0) most some far)
 
--- the same by the other end
+-- the same for the other endpoint
 pub other_form : (is_first : Bool) (m : Moments) (k most : ℕ) (ends : ℕ × ℕ)
     → (turned_moments is_first m).first_squares ≢ 0
     → IsEndFar (swapped (turned_moments is_first m)) (k * other_end_of is_first ends) most
@@ -162,7 +162,8 @@ module _ (w h : ℕ) (scan : PartitionScan) (place : ℕ) (is : IsPartScan w h s
   abbrev byte_of : ℕ → ℕ
   byte_of value = colour_value scan.tables.now.level value
 
-  -- a value in the trend that leaves the channel its error is no better
+  -- a value with the trend, with which the channel has at least its present error, does not reduce
+  -- the error
   pub no_better : (kept value : ℕ) → IsSingleChannel scan trend place kept
       → value < count → IsInTrend scan trend place (byte_of value)
       → kept ≤ single_channel_of scan trend place (byte_of value)
@@ -172,7 +173,7 @@ module _ (w h : ℕ) (scan : PartitionScan) (place : ℕ) (is : IsPartScan w h s
       let all = exchange w h scan place value is within range in
       rw (← is.kept.total_is) (omega (arith, moves, all, more))
 
-  -- the present value is at its position
+  -- the present value is at its position in the order
   pub starts_at : IsPresentAt scan place order start → byte_on scan order start ≡ present
   starts_at at =
       ap (λ rank. byte_of (integer_at count rank)) at.is
@@ -298,7 +299,7 @@ module _ (w h : ℕ) (scan : PartitionScan) (place : ℕ) (is : IsPartScan w h s
               (λ at k' high low far. below at k' high low far.0 far.1);
         }
 
--- the error with a value in a walk's trend
+-- the error with a value that has the trend of the walk
 pub walk_exchange : (w h : ℕ) (scan : PartitionScan) (place : ℕ) (walk : OwnWalk) (value : ℕ)
     → IsPartScan w h scan → place < endpoint_integers scan.cem → IsOwnWalk w h scan place walk
     → value < count_of scan.tables.now.level

@@ -1,4 +1,4 @@
--- The 16 bytes of a block and its number.
+-- The number of a block and its 16 bytes.
 use Rattle.std.proofs.Common.{◌≡◌, ℕ, zero, suc, ◌+◌, ◌*◌, ◌/◌, ◌%◌, ◌^◌, ◌<◌, List, [], ◌∷◌, length, get_or, refl, sym, ◌∙◌, ap, arith, zero-add}
 use Rattle.std.specs.Int.{sum_through, byte_worth, byte_at, bytes_low_first}
 use Rattle.std.proofs.lemmas.Nat.{mod_below, mod-mul-add}
@@ -23,7 +23,7 @@ sum_through-scaled : (f g : ℕ → ℕ) (k : ℕ) → ((i : ℕ) → f i ≡ 25
 sum_through-scaled f g zero each = each 0
 sum_through-scaled f g (suc k) each = omega (arith, sum_through-scaled f g k each, each (suc k))
 
--- the worth of all bytes is the number
+-- the number is the sum of its bytes times their powers of 256
 pub number_of-is : (bytes : List ℕ) (k : ℕ) → length bytes ≡ suc k
     → sum_through (λ i. byte_worth i (get_or bytes i 0)) k ≡ number_of bytes
 number_of-is [] k long = absurd (omega arith)
@@ -43,7 +43,7 @@ number_of-is (b ∷ bytes) (suc k) long =
 
 -- ---- from a number
 
--- the low digits to the base 256
+-- the digits of a remainder in base 256
 low_digits : (m x : ℕ) → 0 < x → m % (x * 256) ≡ (m / 256 % x) * 256 + m % 256
 low_digits m x some =
     let q : ℕ = m / 256 in
@@ -60,7 +60,7 @@ power-some : (k : ℕ) → 0 < 256 ^ k
 power-some zero = omega arith
 power-some (suc k) = omega (arith, pow-suc 256 k, power-some k)
 
--- k bytes from byte i up are the number's digits there
+-- k bytes from byte i on encode the digits of the number there
 bytes-are : (i k n : ℕ) → number_of (bytes_low_first i k n) ≡ n / 256 ^ i % 256 ^ k
 bytes-are i zero n = omega arith
 bytes-are i (suc k) n =

@@ -1,4 +1,4 @@
--- Laws of the trits of a byte and of the quints of seven bits, each true of every case.
+-- Laws of the trits that T encodes and of the quints that Q encodes, proved case by case.
 use Rattle.std.proofs.Common.{◌≡◌, ◌≢◌, ℕ, zero, suc, ◌<◌, ◌≤◌, Bool, true, false, IsTrue, ◌&&◌, List, [], ◌∷◌, get_or, refl, ◌∙◌, ap, arith, ltb, eqb, inl, inr}
 use Rattle.std.proofs.lemmas.Bool.{ltb-true, eqb-true, eq-eqb, and_parts, and_from, both_ways, cases_eq}
 use Rattle.astc_model.specs.Sums.{all_below}
@@ -31,7 +31,7 @@ quints-lt q i lt within =
     ltb-true (get_or (quints q) i 0) 5 (every_below (λ j. ltb (get_or (quints q) j 0) 5) 3 i
     (every_below quints_test 128 q all_quints lt) within)
 
--- ---- the least number that reads as given digits
+-- ---- the least number that encodes given digits
 
 from_same_digits : (xs ys : List ℕ) → same_digits xs ys ≡ true → xs ≡ ys
 from_same_digits [] [] e = refl
@@ -49,7 +49,7 @@ same_digits-self [] = refl
 same_digits-self (x ∷ xs) = and_from (eqb x x) (same_digits xs xs) (eq-eqb x x refl)
     (same_digits-self xs)
 
--- nothing before the first has the property
+-- no number before the first one for which p is true has this property
 least_from-first : (p : ℕ → Bool) (n k t : ℕ) → k ≤ t → t < least_from p n k → p t ≡ false
 least_from-first p zero k t from lt = absurd (omega arith)
 least_from-first p (suc n) k t from lt =
@@ -67,7 +67,7 @@ least_from-first p (suc n) k t from lt =
     in
     step (p k) refl lt
 
--- no lesser byte reads as the trits
+-- no smaller T encodes the trits
 pub least_trits-least : (digits : List ℕ) (t : ℕ) → t < least_trits digits → trits t ≢ digits
 unfolding least_trits
 least_trits-least digits t lt e =
@@ -82,7 +82,7 @@ least_quints-least digits q lt e =
     (least_from-first (λ u. same_digits (quints u) digits) 128 0 q (omega arith) lt)
     (ap (λ x. same_digits x digits) e ∙ same_digits-self digits)
 
--- ---- every five trits and every three quints have their number
+-- ---- all combinations of five trits and of three quints have an encoding
 
 abbrev trits_back : ℕ → ℕ → ℕ → ℕ → ℕ → Bool
 trits_back a b c d e =
@@ -152,7 +152,7 @@ least_quints-lt a b c la lb lc =
     (and_parts (same_digits (quints (least_quints (a ∷ b ∷ c ∷ []))) (a ∷ b ∷ c ∷ []))
     (ltb (least_quints (a ∷ b ∷ c ∷ [])) 128) (quints_back-is a b c la lb lc)).1
 
--- ---- what is missing from a last group is written without bits
+-- ---- the missing integers of an incomplete last group take no bits
 
 pub least_trits-none : least_trits (0 ∷ 0 ∷ 0 ∷ 0 ∷ 0 ∷ []) ≡ 0
 unfolding trits low_trits least_trits

@@ -1,4 +1,4 @@
--- The effect of the shifts and masks of a field on its bits.
+-- The effect of shifts and masks on the bits of a field.
 use Rattle.std.proofs.Common.{◌≡◌, ℕ, ◌+◌, ◌-◌, ◌*◌, ◌/◌, ◌%◌, ◌^◌, ◌<◌, ◌≤◌, refl, sym, ◌∙◌, ap, arith, bit_and, bit_or, bit_xor, zero-add, ◌⊎◌, inl, inr, min, Bool, true, false, IsTrue, ◌==◌, ◌&&◌, ◌||◌, nat_lt, nat_le, if◌then◌else◌}
 use Rattle.std.specs.Int.{bit_at}
 use Rattle.std.proofs.lemmas.Bool.{cases_lt, and_parts, or_cases, eqb-true, ltb-true, leb-true}
@@ -18,7 +18,7 @@ no_field b k = refl
 pub field_of-none : (b k n : ℕ) → n ≡ 0 → 0 ≡ field_of b k n
 field_of-none b k n none = rw none (no_field b k)
 
--- the mask of n ones takes the field
+-- a shift and a mask of n ones give a field
 pub field_by_mask : (b k n : ℕ) → n ≤ 128 → bit_and (b / 2 ^ k) ((2 ^ 128 - 1) / 2 ^ (128 - n))
     ≡ field_of b k n
 field_by_mask b k n within =
@@ -27,7 +27,7 @@ field_by_mask b k n within =
     ∙ ap (λ x. 2 ^ x - 1) back in
     ap (bit_and (b / 2 ^ k)) mask ∙ and_mask (b / 2 ^ k) n ∙ sym (field_of-is b k n)
 
--- the mask of n ones at 64 bits
+-- a mask of n ones gives the low n bits of a 64-bit number
 pub low_by_mask : (x n : ℕ) → n < 64 → bit_and x (1 * 2 ^ n % 2 ^ 64 - 1) ≡ x % 2 ^ n
 low_by_mask x n within = ap (λ m. bit_and x (m - 1)) (one_shl n 64 within) ∙ and_mask x n
 
@@ -35,9 +35,9 @@ pub small_by_mask : (b k n : ℕ) → n < 64 → bit_and (b / 2 ^ k) (1 * 2 ^ n 
     ≡ field_of b k n
 small_by_mask b k n within = low_by_mask (b / 2 ^ k) n within ∙ sym (field_of-is b k n)
 
--- ---- a field that is set
+-- ---- the field that `set_field` writes
 
--- bit i of a number shifted up by k
+-- bit i of a number is bit k + i after a shift to the left by k
 shifted : (x k i : ℕ) → bit_at (x * 2 ^ k) (k + i) ≡ bit_at x i
 shifted x k i = ap (λ y. y % 2) (sym (shr-shr (x * 2 ^ k) k i) ∙ ap (λ y. y / 2 ^ i) (shl-shr x k))
 
@@ -104,7 +104,7 @@ changed_above b k n v i within fits le =
     unchanged b (x * 2 ^ k % 2 ^ 128) i (ap (λ y. bit_at y i) (change_fits b k n v within fits)
     ∙ bit_at_above (x * 2 ^ k) (n + k) i small (omega arith))
 
--- ---- runs of bits that change places
+-- ---- exchanges of neighbouring runs of bits
 
 bit_low : (n i : ℕ) → i < 128 → bit_at (n % 2 ^ 128) i ≡ bit_at n i
 bit_low n i lt = sym (bit_at_cat_low (n / 2 ^ 128) 128 (n % 2 ^ 128) i lt)
@@ -113,13 +113,13 @@ bit_low n i lt = sym (bit_at_cat_low (n / 2 ^ 128) 128 (n % 2 ^ 128) i lt)
 abbrev exchange : ℕ → ℕ → ℕ → ℕ
 exchange block w mask = bit_or (bit_and block mask * 2 ^ w % 2 ^ 128) (bit_and (block / 2 ^ w) mask)
 
--- bit k of the upper run, which is moved down
+-- bit k of the upper runs after they are shifted down by w
 moved_down : (block w mask k : ℕ) → bit_at (bit_and (block / 2 ^ w) mask) k
     ≡ min (bit_at block (w + k)) (bit_at mask k)
 moved_down block w mask k = bit_at_and (block / 2 ^ w) mask k
     ∙ ap (λ x. min (x % 2) (bit_at mask k)) (shr-shr block w k)
 
--- bit k of the lower run, which is moved up
+-- bit k of the lower runs after they are shifted up by w
 moved_up : (block w mask k : ℕ) → k < 128 → w ≤ k → bit_at (bit_and block mask * 2 ^ w % 2 ^ 128) k
     ≡ min (bit_at block (k - w)) (bit_at mask (k - w))
 moved_up block w mask k lt within =
@@ -198,12 +198,12 @@ exchange_is block w mask k runs lt =
     exchange_split block w mask k (k / w % 2 == 0) lt
     (every_below (is_split_at w mask) 128 k runs lt)
 
--- ---- bits in reverse
+-- ---- reversal of all bits
 
 abbrev Exchanged : ℕ → ℕ → ℕ → Type 0
 Exchanged w old new = (k : ℕ) → k < 128 → bit_at new k ≡ bit_at old (partner w k)
 
--- the seven exchanges in turn put bit 127 - k at k, and stay inside
+-- whether the seven exchanges together move bit 127 - k to position k, with all positions below 128
 abbrev reversal_test : ℕ → Bool
 reversal_test k =
     let a = partner 64 k in

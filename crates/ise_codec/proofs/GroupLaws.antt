@@ -1,4 +1,4 @@
--- Laws of one group of an integer sequence: what it reads as, and what is written.
+-- Laws of one group of an integer sequence: its decoding and its encoding.
 use Rattle.std.proofs.Common.{◌≡◌, ℕ, zero, suc, ◌+◌, ◌*◌, ◌/◌, ◌%◌, ◌^◌, ◌<◌, ◌≤◌, List, [], ◌∷◌, length, get_or, take, drop, refl, sym, ◌∙◌, ap, arith, zero-add}
 use Rattle.std.specs.Int.{bit_at}
 use Rattle.std.specs.List.{All}
@@ -15,16 +15,16 @@ use Rattle.astc_model.proofs.BitLaws.{field_of-is, field_of-lt, field_of-field_o
 use Rattle.astc_model.proofs.PackingLaws.{packed-lt, field_of-packed}
 use Rattle.ise_codec.proofs.DigitLaws.{trits-lt, quints-lt, trits-least_trits, least_trits-lt, quints-least_quints, least_quints-lt, least_trits-none, least_trits-one, least_trits-two, least_trits-three, least_trits-four, least_quints-none, least_quints-one, least_quints-two}
 
--- ---- reading
+-- ---- decoding
 
--- a field below bit m needs the low m bits alone
+-- a field that ends at bit m or below depends on the low m bits only
 pub field_of-low : (z m k n : ℕ) → k + n ≤ m → field_of (z % 2 ^ m) k n ≡ field_of z k n
 field_of-low z m k n within =
     let whole : field_of z 0 m ≡ z % 2 ^ m = field_of-is z 0 m ∙ ap (λ x. x % 2 ^ m) (div-one z) in
     ap (λ x. field_of x k n) (sym whole) ∙ field_of-field_of z 0 m k n within
     ∙ ap (λ j. field_of z j n) (zero-add k)
 
--- a group needs its own bits alone
+-- the integers of a group depend on the bits of the group only
 pub group_values-low : (digit : Digit) (b m z : ℕ) → group_bits digit b ≤ m
     → group_values digit b (z % 2 ^ m) ≡ group_values digit b z
 unfolding trit_group quint_group
@@ -78,7 +78,7 @@ quint_bits-lt b z = omega (
       (3 * b + 5) 2,
 )
 
--- a digit under its base gives a value under the level's count
+-- a digit below its base and low bits give an integer below the count of the level
 digit_lt : (base b digit low : ℕ) → digit < base → low < 2 ^ b → digit * 2 ^ b + low < base * 2 ^ b
 digit_lt base b digit low d l = omega (arith, mul-add-lt digit (2 ^ b) low base d l)
 
@@ -105,7 +105,7 @@ all_five m a b c d e la lb lc ld le =
     All-cons (λ v. v < m) a (b ∷ c ∷ d ∷ e ∷ []) la
     (All-cons (λ v. v < m) b (c ∷ d ∷ e ∷ []) lb (all_three m c d e lc ld le))
 
--- each value of a group is under the level's count
+-- each integer of a group is below the count of the level
 pub group_values-lt : (digit : Digit) (b z : ℕ) → All (λ v. v < base_of digit * 2 ^ b)
     (group_values digit b z)
 unfolding trit_group quint_group
@@ -133,13 +133,13 @@ group_values-lt Quint b z =
     (quint_value-lt b z 1 (b + 3) (omega arith))
     (quint_value-lt b z 2 (2 * b + 5) (omega arith))
 
--- ---- writing
+-- ---- encoding
 
--- each of the values, and what stands for one past their end, is under m
+-- each integer, and the 0 for those past the end, is below m
 abbrev pub AllUnder : ℕ → List ℕ → Type 0
 AllUnder m values = (i : ℕ) → get_or values i 0 < m
 
--- what a group of these values reads as: the values, and 0 for each that is missing
+-- the integers that a group decodes to: the given ones, and 0 for each missing one
 abbrev pub filled : Digit → List ℕ → List ℕ
 filled Bits values = get_or values 0 0 ∷ []
 filled Trit values = get_or values 0 0 ∷ get_or values 1 0 ∷ get_or values 2 0 ∷ get_or values 3 0
@@ -153,7 +153,7 @@ digit_at-lt base b values i under = div_below (get_or values i 0) (2 ^ b) base (
 low_at-lt : (b : ℕ) (values : List ℕ) (i : ℕ) → low_at b values i < 2 ^ b
 low_at-lt b values i = mod_below (get_or values i 0) (2 ^ b) (pow_pos b)
 
--- a field at a place that is written in another way
+-- a field at an equal position has the same value
 moved : (z k k' n v : ℕ) → k ≡ k' → field_of z k n ≡ v → field_of z k' n ≡ v
 moved z k k' n v same e = ap (λ j. field_of z j n) (sym same) ∙ e
 
@@ -209,7 +209,7 @@ quint_fields-fit b q values = (
   ),
 )
 
--- the byte of a written group
+-- the bits T of an encoded group
 trit_bits-packed : (b t : ℕ) (values : List ℕ) → t < 256 → trit_bits b (trits_packed b t values) ≡ t
 unfolding trits_packed
 trit_bits-packed b t values lt =
@@ -237,7 +237,7 @@ trit_bits-packed b t values lt =
     in
     omega (arith, t0, t2, t4, t5, t7)
 
--- the bits Q of a written group
+-- the bits Q of an encoded group
 quint_bits-packed : (b q : ℕ) (values : List ℕ) → q < 128 → quint_bits b (quints_packed b q values)
     ≡ q
 unfolding quints_packed
@@ -265,7 +265,7 @@ list_five : {a b c d e a' b' c' d' e' : ℕ} → a ≡ a' → b ≡ b' → c ≡
     → a ∷ b ∷ c ∷ d ∷ e ∷ [] ≡ a' ∷ b' ∷ c' ∷ d' ∷ e' ∷ []
 list_five p q r s t = cc
 
--- a value from its digit and its low bits
+-- an integer is its digit times 2 ^ b plus its low bits
 whole_value : (b digit v low : ℕ) → digit ≡ v / 2 ^ b → low ≡ v % 2 ^ b → digit * 2 ^ b + low ≡ v
 whole_value b digit v low d l = rw (d, l) (shr_split v b)
 
@@ -328,7 +328,7 @@ quint_group-packed b q values lt digits =
     (field_of-packed ws vs 4 fit (omega arith))) in
     list_three v0 v1 v2
 
--- what is written reads back
+-- an encoded group is decoded to its integers
 pub group_values-written : (digit : Digit) (b : ℕ) (values : List ℕ)
     → AllUnder (base_of digit * 2 ^ b) values → group_values digit b (group_written digit b values)
     ≡ filled digit values
@@ -361,7 +361,7 @@ group_values-written Quint b values under =
     (digit_at-lt 5 b values 0 under) (digit_at-lt 5 b values 1 under)
     (digit_at-lt 5 b values 2 under))
 
--- a written group fits its bits
+-- a number below a power of two is below an equal power
 to_power : (z m m' : ℕ) → z < 2 ^ m → m ≡ m' → z < 2 ^ m'
 to_power z m m' lt same = rw (← same) lt
 
@@ -382,7 +382,7 @@ group_written-lt Quint b values =
     (3 * b + 7) (packed-lt (quint_widths b) (quint_fields b q values)
     (quint_fields-fit b q values)) (omega arith)
 
--- a truncated group: missing values have no bits
+-- ---- incomplete groups: missing integers take no bits
 
 abbrev AllZero : List ℕ → Type 0
 AllZero [] = Unit {0}
@@ -397,7 +397,7 @@ packed-zero (w ∷ ws) (v ∷ vs) zeros =
     let first : v ≡ 0 = zeros.0 in
     rw (rest, first) (omega arith)
 
--- fields that are 0 from place j on leave the bits of the first j
+-- if all fields from index j on are 0, the packed number fits the widths of the first j fields
 packed-cut : (j : ℕ) (ws vs : List ℕ) → AllFit ws vs → AllZero (drop j vs)
     → packed ws vs < 2 ^ total_width (take j ws)
 unfolding packed
@@ -530,7 +530,7 @@ group_quints-cut b (v ∷ w ∷ []) short under =
 group_quints-cut b (v ∷ w ∷ x ∷ []) short under = group_written-lt Quint b (v ∷ w ∷ x ∷ [])
 group_quints-cut b (v ∷ w ∷ x ∷ y ∷ ys) short under = absurd (omega arith)
 
--- no more values than one group has take no more bits than their own
+-- the encoding of at most one group of integers takes no more bits than these integers need
 pub group_written-cut : (digit : Digit) (b : ℕ) (values : List ℕ) → length values ≤ group_size digit
     → AllUnder (base_of digit * 2 ^ b) values → group_written digit b values < 2 ^
     (length values * b + digit_bits digit (length values))

@@ -1,4 +1,4 @@
--- The sizes of a group's parts, and how the code's steps make the group.
+-- Bounds of the parts of a group, and the code's steps that assemble a group.
 use Rattle.std.proofs.Common.{◌≡◌, ℕ, ◌+◌, ◌*◌, ◌%◌, ◌^◌, ◌<◌, ◌≤◌, List, get_or, arith}
 use Rattle.std.proofs.lemmas.Nat.{mul-le, shl_whole}
 use Rattle.std.proofs.Math.Nat.{pow-le-pow_right}

@@ -1,4 +1,4 @@
--- How the loops of reading follow the groups of a sequence.
+-- The loops that decode a sequence follow its groups.
 use Rattle.std.proofs.Common.{◌≡◌, ℕ, ◌+◌, ◌/◌, ◌%◌, ◌^◌, ◌<◌, ◌≤◌, List, [], ◌++◌, length, take, sym, ◌∙◌, ap, arith, append_assoc}
 use Rattle.std.specs.List.{All}
 use Rattle.std.proofs.lemmas.List.Elements.{All-same}
@@ -12,7 +12,7 @@ use Rattle.astc_model.proofs.BitLaws.{field_of-is}
 use Rattle.ise_codec.proofs.GroupLaws.{group_values-low}
 use Rattle.ise_codec.proofs.SequenceLaws.{values_in-more, values_in-last, length-sequence, sequence-lt}
 
--- a whole group is read
+-- a step of a loop decodes a complete group
 pub group_step : (digit : Digit) (b n m z : ℕ) (group items whole : List ℕ)
     → items ++ values_in digit b n z ≡ whole → n ≡ group_size digit + m → group_bits digit b ≤ 64
     → group ≡ group_values digit b (z % 2 ^ 64) → (items ++ group) ++ values_in digit b m
@@ -24,7 +24,7 @@ group_step digit b n m z group items whole before more small same =
     ∙ sym (values_in-more digit b n m z more) in
     append_assoc items group rest ∙ ap (λ xs. items ++ xs) both ∙ before
 
--- the last group is read and cut
+-- the last step decodes the last group, which may be incomplete
 pub group_last : (digit : Digit) (b n z : ℕ) (group items whole : List ℕ)
     → items ++ values_in digit b n z ≡ whole → n ≤ group_size digit → group_bits digit b ≤ 64
     → group ≡ group_values digit b (z % 2 ^ 64) → items ++ take n group ≡ whole
@@ -37,7 +37,7 @@ group_last digit b n z group items whole before last small same =
 pub nothing_left : (b z : ℕ) → values_in Bits b 0 z ≡ []
 nothing_left b z = values_in-last Bits b 0 z (omega arith)
 
--- the values of the bits that were taken from the block
+-- the decoded integers are those of the sequence in the block
 pub read_is : (digit : Digit) (b bits block at k : ℕ) (level : Level) (n : ℕ) (items : List ℕ)
     → digit ≡ digit_of level → b ≡ low_bits_of level → k ≡ sequence_bits level n → bits
     ≡ field_of block at k → items ≡ values_in digit b n bits → items

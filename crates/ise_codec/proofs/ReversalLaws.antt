@@ -1,9 +1,9 @@
--- A field of a reversed block is a field that runs from the top of the block downwards.
+-- A field of the reversed block is a field of the block in reverse bit order, counted from the top.
 use Rattle.std.proofs.Common.{◌≡◌, ℕ, zero, suc, ◌+◌, ◌-◌, ◌<◌, ◌≤◌, refl, ◌∙◌, ap, arith}
 use Rattle.std.specs.Int.{bit_at}
 use Rattle.astc_model.specs.Bits.{field_of, top_field}
 
--- r is the block from its last bit to its first
+-- r is the block with its bits in reverse order
 abbrev pub IsReversed : ℕ → ℕ → Type 0
 IsReversed block r = (i : ℕ) → i < 128 → bit_at r i ≡ bit_at block (127 - i)
 

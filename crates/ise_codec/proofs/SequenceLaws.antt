@@ -1,4 +1,5 @@
--- Laws of integer sequences: written values read back, and read values are below the level's count.
+-- Laws of integer sequences: an encoded sequence is decoded to its integers, and decoded integers
+-- are below the count of the level.
 use Rattle.std.proofs.Common.{◌≡◌, ℕ, zero, suc, ◌+◌, ◌-◌, ◌*◌, ◌/◌, ◌%◌, ◌^◌, ◌<◌, ◌≤◌, List, [], ◌∷◌, ◌++◌, length, get_or, take, drop, refl, sym, ◌∙◌, ap, arith, inl, inr}
 use Rattle.std.specs.List.{All}
 use Rattle.std.proofs.lemmas.Nat.{pow_pos, pow-add, mul-add-lt, shr_high, mod_low, mod_below}
@@ -16,7 +17,7 @@ use Rattle.astc_model.specs.Sequences.{group_size, group_bits, group_count, grou
 use Rattle.astc_model.proofs.BitLaws.{field_of-is}
 use Rattle.ise_codec.proofs.GroupLaws.{group_values-low, length-group_values, group_values-lt, AllUnder, filled, group_values-written, group_written-lt, group_written-cut}
 
--- ---- groups and their count
+-- ---- the number of groups
 
 group_count-more : (digit : Digit) (n : ℕ) → group_size digit ≤ n → 0 < n → group_count digit n
     ≡ suc (group_count digit (n - group_size digit))
@@ -35,20 +36,20 @@ group_size-pos Bits = omega arith
 group_size-pos Trit = omega arith
 group_size-pos Quint = omega arith
 
--- whole groups hold n values or more
+-- the groups have room for n integers
 group_count-holds : (digit : Digit) (n : ℕ) → n ≤ group_count digit n * group_size digit
 group_count-holds Bits n = omega arith
 group_count-holds Trit n = omega arith
 group_count-holds Quint n = omega arith
 
--- the bits of one group and m more values
+-- the bits of n integers are those of one group and of the m integers after it
 pub digit_bits-more : (digit : Digit) (b n m : ℕ) → n ≡ group_size digit + m
     → n * b + digit_bits digit n ≡ group_bits digit b + (m * b + digit_bits digit m)
 digit_bits-more Bits b n m same = rw same (omega arith)
 digit_bits-more Trit b n m same = rw same (omega arith)
 digit_bits-more Quint b n m same = rw same (omega arith)
 
--- ---- reading
+-- ---- decoding
 
 length-values_of_groups : (digit : Digit) (b k z : ℕ) → length (values_of_groups digit b k z)
     ≡ k * group_size digit
@@ -92,7 +93,7 @@ values_in-lt digit b n z =
     All-take (λ v. v < base_of digit * 2 ^ b) n (values_of_groups digit b (group_count digit n) z)
     (values_of_groups-lt digit b (group_count digit n) z)
 
--- a whole group precedes the values of the bits above it
+-- the integers are those of the lowest group, followed by those in the bits above it
 pub values_in-more : (digit : Digit) (b n m z : ℕ) → n ≡ group_size digit + m
     → values_in digit b n z ≡ group_values digit b z ++ values_in digit b m
     (z / 2 ^ group_bits digit b)
@@ -113,7 +114,7 @@ values_in-more digit b n m z same =
     ∙ take-append-add (group_values digit b z) (values_of_groups digit b (group_count digit m) rest)
     m
 
--- no more values than one group has
+-- at most one group of integers
 pub values_in-last : (digit : Digit) (b n z : ℕ) → n ≤ group_size digit → values_in digit b n z
     ≡ take n (group_values digit b z)
 unfolding values_in values_of_groups
@@ -126,7 +127,7 @@ values_in-last digit b (suc n) z within =
     ∙ take-append-le (suc n) (group_values digit b z) []
     (omega (arith, length-group_values digit b z))
 
--- a sequence has its length, and each value is under the level's count
+-- a sequence has n integers, each below the count of the level
 pub length-sequence : (z : ℕ) (level : Level) (n : ℕ) → length (sequence z level n) ≡ n
 length-sequence z level n = length-values_in (digit_of level) (low_bits_of level) n
     (z % 2 ^ sequence_bits level n)
@@ -136,12 +137,12 @@ pub sequence-lt : (z : ℕ) (level : Level) (n : ℕ) → All (λ v. v < count_o
 sequence-lt z level n = values_in-lt (digit_of level) (low_bits_of level) n
     (z % 2 ^ sequence_bits level n)
 
--- the same bits in the sequence's length, the same values
+-- two numbers with the same bits within the sequence's length give the same integers
 pub sequence-same : (y z : ℕ) (level : Level) (n : ℕ) → y % 2 ^ sequence_bits level n
     ≡ z % 2 ^ sequence_bits level n → sequence y level n ≡ sequence z level n
 sequence-same y z level n same = ap (values_in (digit_of level) (low_bits_of level) n) same
 
--- the sequence of a field of a block is the sequence from the field's place on
+-- the sequence in a field of a block is the sequence in the block from the field's position on
 pub sequence-field_of : (block at : ℕ) (level : Level) (n : ℕ)
     → sequence (field_of block at (sequence_bits level n)) level n
     ≡ sequence (block / 2 ^ at) level n
@@ -154,12 +155,12 @@ sequence-field_of block at level n =
     in
     sequence-same (field_of block at bits) (block / 2 ^ at) level n low
 
--- the sequence of the lowest bits of a number
+-- a sequence in the lowest bits of a number
 pub sequence-lowest : (z : ℕ) (level : Level) (n : ℕ)
     → sequence (field_of z 0 (sequence_bits level n)) level n ≡ sequence z level n
 sequence-lowest z level n = sequence-field_of z 0 level n ∙ ap (λ x. sequence x level n) (div-one z)
 
--- ---- writing
+-- ---- encoding
 
 get_or_past : (values : List ℕ) (i d : ℕ) → length values ≤ i → get_or values i d ≡ d
 get_or_past [] i d past = refl
@@ -188,7 +189,7 @@ one_group digit b (suc k) values m none cut = absurd (omega arith)
 pub AllUnder-drop : (m k : ℕ) (values : List ℕ) → AllUnder m values → AllUnder m (drop k values)
 AllUnder-drop m k values under = λ i. rw (get_or-drop k values i 0) (under (k + i))
 
--- values that are under the level's count, by the index
+-- if all integers are below m, so is the integer at each index
 pub AllUnder-from_all : (m : ℕ) (values : List ℕ) → 0 < m → All (λ v. v < m) values
     → AllUnder m values
 AllUnder-from_all m values some all = λ i.
@@ -234,7 +235,7 @@ groups_written-lt digit b (suc k) values count under =
           (group_written-lt digit b values))
     ]
 
--- the values that fill one group
+-- a group of enough integers has no missing one
 filled-more : (digit : Digit) (values : List ℕ) → group_size digit ≤ length values
     → filled digit values ≡ take (group_size digit) values
 filled-more Bits (a ∷ vs) long = refl
@@ -250,7 +251,7 @@ filled-more Quint [] long = absurd (omega arith)
 filled-more Quint (a ∷ []) long = absurd (omega arith)
 filled-more Quint (a ∷ b ∷ []) long = absurd (omega arith)
 
--- fewer values than a group has, and what fills them up
+-- an incomplete group decodes to its integers and zeros
 filled-last : (digit : Digit) (values : List ℕ) → length values ≤ group_size digit
     → take (length values) (filled digit values) ≡ values
 filled-last Bits [] short = refl
@@ -274,7 +275,7 @@ length-filled Bits values = refl
 length-filled Trit values = refl
 length-filled Quint values = refl
 
--- the lowest group of a number
+-- a number whose lowest group is encoded from integers decodes to these first
 group_values-lowest : (digit : Digit) (b high : ℕ) (values : List ℕ)
     → AllUnder (base_of digit * 2 ^ b) values
     → group_values digit b (high * 2 ^ group_bits digit b + group_written digit b values)
@@ -351,7 +352,7 @@ unfolding values_in values_written
 values_in-written digit b values under =
     groups_written-back digit b (group_count digit (length values)) values refl under
 
--- a whole group is below the values after it
+-- the encoding is the first group, with the encoding of the remaining integers above it
 pub values_written-more : (digit : Digit) (b : ℕ) (values : List ℕ)
     → group_size digit ≤ length values → values_written digit b values
     ≡ values_written digit b (drop (group_size digit) values) * 2 ^ group_bits digit
@@ -380,7 +381,7 @@ written_none Bits b none = none
 written_none Trit b none = none
 written_none Quint b none = none
 
--- no more values than one group has
+-- the encoding of at most one group of integers is that group
 pub values_written-last : (digit : Digit) (b : ℕ) (values : List ℕ)
     → length values ≤ group_size digit → AllUnder (base_of digit * 2 ^ b) values
     → values_written digit b values ≡ group_written digit b values
@@ -404,14 +405,14 @@ count_of-pos : (level : Level) → 0 < count_of level
 count_of-pos level = digit_lt_pos (base_of (digit_of level)) (low_bits_of level)
     (base_of-pos (digit_of level))
 
--- what is written is under two to the sequence's length
+-- an encoded sequence is below 2 to its length in bits
 pub written_sequence-lt : (level : Level) (values : List ℕ) → All (λ v. v < count_of level) values
     → written_sequence level values < 2 ^ sequence_bits level (length values)
 written_sequence-lt level values all =
     values_written-lt (digit_of level) (low_bits_of level) values
     (AllUnder-from_all (count_of level) values (count_of-pos level) all)
 
--- what is written reads back
+-- an encoded sequence is decoded to its integers
 pub sequence-written : (level : Level) (values : List ℕ) → All (λ v. v < count_of level) values
     → sequence (written_sequence level values) level (length values) ≡ values
 sequence-written level values all =
@@ -420,7 +421,7 @@ sequence-written level values all =
     ∙ values_in-written (digit_of level) (low_bits_of level) values
     (AllUnder-from_all (count_of level) values (count_of-pos level) all)
 
--- a field of a block with the written bits reads as the values
+-- a block that has an encoded sequence in a field is decoded to the integers there
 pub sequence-written_field : (block at : ℕ) (level : Level) (values : List ℕ)
     → All (λ v. v < count_of level) values → field_of block at (sequence_bits level (length values))
     ≡ written_sequence level values → sequence (block / 2 ^ at) level (length values) ≡ values

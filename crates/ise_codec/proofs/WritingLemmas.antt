@@ -1,4 +1,4 @@
--- How the steps of writing make the groups of a sequence.
+-- The steps of the code that encode the groups of a sequence.
 use Rattle.std.proofs.Common.{◌≡◌, ℕ, zero, suc, ◌+◌, ◌-◌, ◌*◌, ◌/◌, ◌%◌, ◌^◌, ◌<◌, ◌≤◌, List, [], ◌∷◌, length, get_or, take, drop, refl, sym, ◌∙◌, ap, arith, zero-add}
 use Rattle.std.specs.Int.{bit_at}
 use Rattle.std.specs.List.{All}
@@ -16,7 +16,7 @@ use Rattle.astc_model.specs.Sequences.{slice, group_size, group_bits, low_at, tr
 use Rattle.ise_codec.proofs.GroupLaws.{AllUnder}
 use Rattle.ise_codec.proofs.SequenceLaws.{digit_bits-more, AllUnder-from_all, values_written-lt, values_written-more, values_written-last, written_sequence-lt, sequence-written}
 
--- ---- the rest of the values
+-- ---- the remaining integers
 
 rest_is : (k : ℕ) (values : List ℕ) → take (length values - k) (drop k values) ≡ drop k values
 rest_is k values =
@@ -49,7 +49,7 @@ by_index digit b values all =
     AllUnder-from_all (base_of digit * 2 ^ b) values
     (omega (arith, mul-add-lt 0 (2 ^ b) 0 (base_of digit) (base_of-pos digit) (pow_pos b))) all
 
--- ---- one group below the others
+-- ---- one group below the encoding of the others
 
 written_above : (digit : Digit) (b : ℕ) (values : List ℕ) (above : ℕ)
     → group_size digit ≤ length values → All (λ v. v < base_of digit * 2 ^ b) values
@@ -146,7 +146,7 @@ pub written_small : (level : Level) (values : List ℕ) (result : ℕ)
     → result < 2 ^ sequence_bits level (length values)
 written_small level values result all written = rw written (written_sequence-lt level values all)
 
--- ---- values of bits alone
+-- ---- integers without digits
 
 pub bits_none : (b : ℕ) (values : List ℕ) → length values < 1 → 0 ≡ values_written Bits b values
 unfolding values_written groups_written
@@ -186,7 +186,7 @@ bits_above b values v rest written same fit before =
     (written_step Bits b (v ∷ rest) written v (omega arith) of_values.0 of_values.1
     (before ∙ sym (ap (values_written Bits b) (rest_is 1 (v ∷ rest)))) first)
 
--- one value more, from the last to the first
+-- a step that adds one integer, from the last to the first
 pub bits_more : (b : ℕ) (values : List ℕ) (place written v : ℕ) → 0 < place → place ≤ length values
     → All (λ v. v < 1 * 2 ^ b) values → length values * b + 0 ≤ 128 → written
     ≡ values_written Bits b (drop place values) → v ≡ get_or values (place - 1) 0

@@ -1,4 +1,4 @@
--- From the sums over the texels of each partition to the error of a block.
+-- The error of a block is bounded by sums over the texels of each partition.
 use Rattle.std.proofs.Common.{◌≡◌, ℕ, zero, suc, ◌+◌, ◌-◌, ◌*◌, ◌/◌, ◌%◌, ◌<◌, ◌≤◌, ◌==◌, Bool, true, false, cond, List, Option, None, Some, length, get_or, refl, ap, ◌∙◌, arith, inl, inr}
 use Rattle.std.specs.Prelude.{slice_index, slice_index_or}
 use Rattle.std.specs.List.{All}
@@ -41,7 +41,7 @@ use Rattle.line_floors.proofs.FloorLaws.{floored_counted, floored_less, floored_
 
 -- ---- one texel
 
--- a mix shows a channel of the source, up to its distance and half a step
+-- the blend is close to its target up to the error of the decoded channel and half a step
 near_shown : (x z shown s : ℕ) → apart x z ≤ 16384 * apart shown s + 8192
     → IsFloored (squared_difference x z) 0 (squared_difference shown s) 1
 near_shown x z shown s close = record {
@@ -55,7 +55,7 @@ near_shown x z shown s close = record {
     means : (p t d : ℕ) → 2 * (p * (t * d)) ≤ t * t * (d * d) + p * p * 1
     means p t d = omega (arith, square_law (t * d) p)
 
--- alpha on the other channels' scale
+-- alpha in the units of the other channels
 rescaled : (n s : ℕ) → apart (256 * n) (32 * ((131072 * s + 65408) / 257)) ≤ 16384 * apart
     ((257 * n + 32) / 64 / 256) s + 8192
 rescaled n s = omega arith
@@ -86,7 +86,7 @@ near_channel Srgb c f h w s fits = either (c == 3)
         let same : 32 * (512 * s) ≡ target Centred s = omega arith in
         rw same (near_shown _ _ (shown Centred f h w) s (near Centred f h w s fits))
 
--- the error of a texel's channels if all have one weight
+-- the error of a texel whose channels all have the same weight w
 abbrev pub error_from : (k : ℕ → ℕ) → Flavour → Ends → (w : ℕ) → Option Texel → ℕ
 error_from k flavour ends w None = 0
 error_from k flavour ends w (Some wanted) =
@@ -126,7 +126,7 @@ unfolding sum_to
 counts g f zero = omega arith
 counts g f (suc n) = omega (arith, counts g f n)
 
--- a term is in one partition at most
+-- a place belongs to one partition only
 no_part : (i : ℕ) (v : ℕ → ℕ) (k : ℕ) → k ≤ i → sum_to (λ m. cond (i == m) (v m) 0) k ≡ 0
 unfolding sum_to
 no_part i v zero after = refl
@@ -181,7 +181,7 @@ module _ (g : List ℕ) (flavour : Flavour) (parts : List ℕ) (ends : List Ends
     (places : List (Option Texel)) (sums : BlockSums) (w : ℕ → ℕ) (n : ℕ)
     (few : length ends ≤ 4) (fit : (p : ℕ) → p < n → w p ≤ 64)
     (are : AreBlockSums n flavour places parts sums) where
-  -- the error of place p, were it in this partition
+  -- the error that place p would have in this partition
   error_in : (part p : ℕ) → ℕ
   error_in part p = error_from (slice_index g) flavour (slice_index_or ends part no_ends) (w p)
       (slice_index_or places p None)
@@ -209,7 +209,7 @@ module _ (g : List ℕ) (flavour : Flavour) (parts : List ℕ) (ends : List Ends
       (λ p inside. floored_where (get_or parts p 0 == part)
       (near_place g flavour own (w p) (slice_index_or places p None) (fit p inside)))))
 
-  -- the distances of the first partitions are under the error of any weights
+  -- the distances of the first partitions are a lower bound on the error for any weights
   pub under_all : (k : ℕ) → k ≤ length ends
       → IsUnder (sum_to (part_distance flavour g sums ends) k)
       (sum_to (slice_index g) 4 * sum_to (part_count sums) 4)
@@ -229,7 +229,7 @@ module _ (g : List ℕ) (flavour : Flavour) (parts : List ℕ) (ends : List Ends
             (part_count sums) k,
       ) at whole)
 
--- ---- a block of these colours
+-- ---- a block with these endpoints
 
 -- the weights of the first plane are at most 64
 plane_weights-le : (coded : CodedFields) (mode : Mode) → 0 < mode.planes
@@ -248,7 +248,7 @@ plane_weights-le coded mode some small all =
     (weight_value-le mode.level (get_or coded.weights.items (q * mode.planes + 0) 0)
     (small (q * mode.planes + 0) 0 place))
 
--- a channel counts less if it is the channel of the second plane
+-- the weight 0 for the component of the second plane makes the bound smaller
 channel_under : (weight component plane c s : ℕ) (shown : ℕ → ℕ) → plane ≡ component
     → cond (component == c + 1) 0 weight * squared_difference
     (shown 0) s ≤ weight * squared_difference (shown (cond (plane == c + 1) 1 0)) s
@@ -259,7 +259,7 @@ channel_under weight component plane c s shown same = rw same (either (component
     either true = omega arith
     either false = omega arith
 
--- or if it is left out
+-- the weight 0 for a channel that is left out makes the bound smaller
 left_out : (b : Bool) (gain x y : ℕ) → gain * x ≤ y → cond b 0 gain * x ≤ y
 left_out true gain x y under = omega arith
 left_out false gain x y under = under
@@ -267,7 +267,7 @@ left_out false gain x y under = under
 module _ (w h : ℕ) (flavour : Flavour) (weights : Weighting) (component : ℕ) (opaque : Bool)
     (parts : List ℕ) (ends : List Ends) (places : List (Option Texel)) (sums : BlockSums)
     (coded : CodedFields) (is : HasColours w h component parts ends coded) where
-  -- the weight of a plane at a place
+  -- the weight of place p in one plane
   weight_at : ℕ → ℕ → ℕ
   weight_at p plane = weight_of w h coded is.mode (p % w) (p / w) plane
 

@@ -1,4 +1,4 @@
--- From squared distances of rounded mixes to an error.
+-- The squared distances of rounded blends are a lower bound on the error.
 use Rattle.std.proofs.Common.{◌≡◌, ℕ, zero, suc, ◌+◌, ◌*◌, ◌<◌, ◌≤◌, Bool, true, false, cond, arith}
 use Rattle.std.proofs.Math.Nat.{mul-le-mul_left}
 use Rattle.astc_model.specs.Sums.{sum_to}
@@ -19,7 +19,7 @@ floored_less {q} {r} {e} {w} less is = record {
   spread = is.spread;
 }
 
--- an error that is no less, of texels and channels that count no less
+-- a lower bound on an error is one on a greater error and for a greater total weight
 pub floored_more : {q e w more most : ℕ} → e ≤ more → w ≤ most → IsFloored q 0 e w
     → IsFloored q 0 more most
 floored_more {q} {e} {w} {more} {most} error weight is = record {
@@ -36,7 +36,7 @@ floored_more {q} {e} {w} {more} {most} error weight is = record {
   );
 }
 
--- the sum over places
+-- lower bounds at places add up
 pub floored_sum : (q e w : ℕ → ℕ) (n : ℕ) → ((i : ℕ) → i < n → IsFloored (q i) 0 (e i) (w i))
     → IsFloored (sum_to q n) 0 (sum_to e n) (sum_to w n)
 unfolding sum_to
@@ -59,7 +59,7 @@ cutoff_law limit weight root wanted error same covered is =
     record { root = root; covered = covered; enough = omega arith } in
     rw same at (floored_law _ 0 error weight _ wanted is far (omega arith))
 
--- distances that are no more are under the error, too
+-- a smaller distance is a lower bound, too
 pub under_less : (few many less more error : ℕ) → few ≤ many → less ≤ more → IsUnder many less error
     → IsUnder few more error
 under_less few many less more error fewer lesser is = floored_more (omega arith) lesser

@@ -1,4 +1,4 @@
--- The kept sums, one place more.
+-- The sums after one more place.
 use Rattle.std.proofs.Common.{◌≡◌, ℕ, zero, suc, ◌+◌, ◌*◌, ◌<◌, ◌≤◌, ◌==◌, true, false, List, [], ◌∷◌, Option, None, length, get_or, set, subst, sym, ◌∙◌, add-one, arith, inl, inr}
 use Rattle.std.specs.Prelude.{slice_index_or}
 use Rattle.std.specs.List.{All}
@@ -15,7 +15,7 @@ sums_more : (most n : ℕ) (sums : List ℕ) → All (λ sum. sum ≤ most * n) 
 sums_more most n sums small = All-weaker (λ sum. sum ≤ most * n) (λ sum. sum ≤ most * (n + 1))
     (λ sum le. omega (arith, le)) sums small
 
--- the sums of fewer texels are within those of more
+-- the ranges for fewer texels are within those for more
 within_one_more : (n : ℕ) (part_sums : PartitionSums) → AreSumsWithin n part_sums
     → AreSumsWithin (n + 1) part_sums
 within_one_more n part_sums is = record {

@@ -1,4 +1,4 @@
--- A texel is at least as far from any mix of a line's colours as from the line.
+-- A texel is at least as far from any blend of a line's endpoints as from the line.
 use Rattle.std.proofs.Common.{◌≡◌, ℕ, zero, suc, ◌+◌, ◌-◌, ◌*◌, ◌≤◌, max, List, [], ◌∷◌, get_or, refl, sym, ap, ◌∙◌, arith, ℤ, pos, neg_ℤ, ◌+ℤ◌, ◌-ℤ◌, ◌*ℤ◌}
 use Rattle.std.specs.Int.RustNames.{unsigned_abs}
 use Rattle.std.proofs.Math.IntN.{zero-*ℤ, *ℤ-zero, *ℤ_comm}
@@ -32,9 +32,9 @@ two_squared x y =
       *ℤ_comm y x,
     )
 
--- ---- one channel with its target t, of colours k times a and b
+-- ---- one channel with its target t and the endpoints k * a and k * b
 
--- the mix less the target, in units of 1/32 of the target
+-- the blend minus the target, in units of 1/32 of those of the target
 mixed_is : (k a b t u w : ℕ) → u + w ≡ 64 → pos 32 *ℤ (pos (2 * (k * a)) -ℤ pos t)
     +ℤ pos (k * w) *ℤ (pos b -ℤ pos a) ≡ pos (k * a * u + k * b * w) -ℤ pos (32 * t)
 mixed_is k a b t u w whole =
@@ -46,7 +46,7 @@ mixed_is k a b t u w whole =
       ap (λ n. k * a * n) whole,
     )
 
--- how much a target falls short of the start s, along the line
+-- the term of a channel in the scalar product of the start minus the target with the line
 abbrev pub short : (g a b s t : ℕ) → ℤ
 short g a b s t = slope g a b *ℤ (pos s -ℤ pos t)
 
@@ -90,9 +90,9 @@ channel_law g k a b t u w whole =
           cross,
         )
 
--- ---- the channels together
+-- ---- all channels
 
--- the squared distance of the targets from the mix at a weight w, in units of 1/32 of theirs
+-- the squared distance of the targets from the blend with the weight w, in units of 1/32 of theirs
 abbrev pub mixed_distance : (gains first second targets : List ℕ) → (w : ℕ) → ℕ
 mixed_distance g f h t w =
     0 + get_or g 0 0 * squared_difference (get_or f 0 0 * (64 - w) + get_or h 0 0 * w)
@@ -104,7 +104,7 @@ mixed_distance g f h t w =
     + get_or g 3 0 * squared_difference (get_or f 3 0 * (64 - w) + get_or h 3 0 * w)
     (32 * get_or t 3 0)
 
--- from the first colour
+-- the squared distance of the targets from the first endpoint
 abbrev pub first_distance : (gains first targets : List ℕ) → ℕ
 first_distance g f t =
     get_or g 0 0 * squared_difference (2 * get_or f 0 0)
@@ -112,7 +112,7 @@ first_distance g f t =
     + get_or g 2 0 * squared_difference (2 * get_or f 2 0)
     (get_or t 2 0) + get_or g 3 0 * squared_difference (2 * get_or f 3 0) (get_or t 3 0)
 
--- how much the targets fall short of the start s, along the line
+-- the scalar product of the start minus the targets with the line
 abbrev pub short_of : (gains starts a b targets : List ℕ) → ℤ
 short_of g s a b t =
     short (get_or g 0 0) (get_or a 0 0) (get_or b 0 0) (get_or s 0 0) (get_or t 0 0)
@@ -167,7 +167,8 @@ texel_law k g a b t w fits =
 
 -- ---- the weight that is best
 
--- over plain numbers: a line of length l, and m times the weight
+-- the inequality for the best weight in plain numbers: l is the squared length of the line, m a
+-- multiple of the weight
 best : (l m q x d : ℕ) (y : ℤ) → pos q ≡ pos (1024 * x)
     +ℤ (pos (32 * m) *ℤ y +ℤ pos (32 * m) *ℤ y) +ℤ pos (m * m * l) → y *ℤ y ≡ pos d
     → l * (1024 * x) ≤ l * q + 1024 * d
@@ -196,7 +197,7 @@ best l m q x d y law square =
     same : l * m * 32 ≡ l * (32 * m)
     same = omega arith
 
--- if the colours are equal, every texel is at the start of the line
+-- if the endpoints are equal in a channel, its term is 0
 flat : (g a b s t : ℕ) → g * squared_difference b a ≡ 0 → short g a b s t ≡ pos 0
 flat zero a b s t none = rw (zero-*ℤ (pos b -ℤ pos a), zero-*ℤ (pos s -ℤ pos t)) refl
 flat (suc g) a b s t none =

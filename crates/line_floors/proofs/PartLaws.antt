@@ -1,4 +1,5 @@
--- The distance that the sums of a partition say is at most that of its texels from any mixes.
+-- The distance that is computed from the sums of a partition is at most the distance of its texels
+-- from any blends.
 use Rattle.std.proofs.Common.{◌≡◌, ℕ, zero, suc, ◌+◌, ◌-◌, ◌*◌, ◌/◌, ◌<◌, ◌≤◌, ◌==◌, Bool, true, false, cond, max, List, Option, None, Some, get_or, refl, ap, ◌∙◌, arith, inl, inr, ℤ, pos, ◌+ℤ◌, ◌-ℤ◌, ◌*ℤ◌, ◌≤ℤ◌}
 use Rattle.std.specs.Prelude.{slice_index_or}
 use Rattle.std.proofs.lemmas.Bool.{cases_lt}
@@ -19,14 +20,14 @@ use Rattle.line_floors.specs.Lengths.{scaled, doubled, dot, length_of, line_of, 
 use Rattle.line_floors.proofs.WholeLaws.{times_plus, value_more, row_more, times_more, own_square, turned_square, above}
 use Rattle.line_floors.proofs.LineLaws.{mixed_distance, first_distance, short_of, value_is, texel_floor}
 
--- ---- what is linear in the sums is a sum over the places
+-- ---- linear functions of the sums are sums over the places
 
--- what a place adds, by its targets, if it is inside
+-- a function of the targets of an inside place; 0 outside the image
 abbrev pub at_place : Flavour → (List ℕ → ℕ) → Option Texel → ℕ
 at_place flavour f None = 0
 at_place flavour f (Some wanted) = f (targets flavour wanted)
 
--- the sum of f over the places below n of a partition
+-- the sum of f over the first n places that belong to a partition
 unfoldable pub sum_in : List ℕ → (part : ℕ) → (ℕ → ℕ) → ℕ → ℕ
 sum_in parts part f n = sum_to (λ p. cond (get_or parts p 0 == part) (f p) 0) n
 
@@ -57,7 +58,7 @@ module _ (flavour : Flavour) (places : List (Option Texel)) (parts : List ℕ) (
 
 -- ---- one texel more
 
--- the line's linear function of a texel's targets
+-- the linear function of the line at the targets of a texel
 abbrev pub value_of : PartitionLine → (targets : List ℕ) → ℤ
 value_of line t = line.constant +ℤ dot line.slopes t
 
@@ -84,7 +85,7 @@ squares_more line s t =
         (get_or values 2 0) (get_or values 3 0) (get_or t c 0) (get_or t 0 0) (get_or t 1 0)
         (get_or t 2 0) (get_or t 3 0)
 
--- the squared distance of a texel's targets from the first colour
+-- the squared distance of a texel's targets from the first endpoint
 abbrev pub start_distance : PartitionLine → (targets : List ℕ) → ℕ
 start_distance line t =
     get_or line.gains 0 0 * squared_difference (get_or line.starts 0 0) (get_or t 0 0)
@@ -171,7 +172,7 @@ texel_under flavour g ends t w fits =
 
 -- ---- a place
 
--- the squared distance of a place's targets from the mix of these colours at a weight
+-- the squared distance of a place's targets from the blend of the endpoints with a weight
 abbrev pub mixed_at : Flavour → (gains : List ℕ) → Ends → (w : ℕ) → Option Texel → ℕ
 mixed_at flavour g ends w None = 0
 mixed_at flavour g ends w (Some wanted) = mixed_distance g (scaled flavour ends.0)
@@ -208,7 +209,7 @@ rest_below flavour places parts part g ends w (suc n) fit =
 
 -- ---- a partition
 
--- over plain numbers: z is n times q
+-- the step from a product with n to a bound, in plain numbers
 under_more : (n d l s z : ℕ) → 1024 * (n * (l + d)) ≤ z + 1024 * (n * l + s)
     → 1024 * (n * d - s) ≤ z
 under_more n d l s z least = omega (arith, least)
@@ -229,7 +230,7 @@ quotient n q m l saved some least =
     whole ((m - l) / 4096) (saved / 4096 / n) (m - l) saved (omega arith) (beyond saved)
     (under n m l saved (n * q) least)
   where
-    -- the reduction is at least the saved distance
+    -- the computed reduction is at least the exact one
     beyond : (saved : ℕ) → saved ≤ n * (4096 * (saved / 4096 / n + 1))
     beyond saved = omega (arith, lt-mul-div-succ (saved / 4096) some)
 

@@ -1,4 +1,4 @@
--- Products of whole numbers, and the squares of a linear function of a texel more.
+-- Products of integers, and the squares of a linear function after one more texel.
 use Rattle.std.proofs.Common.{◌≡◌, ℕ, zero, suc, ◌+◌, ◌*◌, ◌-◌, refl, ap, ◌∙◌, arith, inl, inr, ℤ, pos, negsuc, neg_ℤ, ◌+ℤ◌, ◌-ℤ◌, ◌*ℤ◌, ◌≤ℤ◌, ◌≤◌, ◌<◌, ◌^◌, w64, FitsSigned, to_z, of_z}
 use Rattle.std.proofs.Math.IntN.{ℤ_ind, zero-*ℤ, suc_ℤ-*ℤ, pred_ℤ-*ℤ, *ℤ_comm, +ℤ_one, -ℤ_one, suc_ℤ-+ℤ, pred_ℤ-+ℤ, +ℤ_idl, +ℤ_invr, *ℤ-zero}
 use Rattle.std.proofs.lemmas.Nat.{mul-le}
@@ -62,7 +62,7 @@ times_one : (k : ℤ) → k *ℤ pos 1 ≡ k
 times_one (pos n) = omega (arith, ints)
 times_one (negsuc n) = omega (arith, ints)
 
--- the product of numbers within these ranges, as a computed one appears in a goal
+-- the product of numbers within these ranges, in the form of a computed one
 pub times_small : (z : ℤ) (k n top : ℕ) → FitsSigned w64 z → unsigned_abs z ≤ k → n ≤ top
     → k * top < 2 ^ 63 → top < 2 ^ 63
     → unsigned_abs (to_z w64 (of_z w64 (to_z w64 (of_z w64 z) *ℤ to_z w64 n))) ≤ k * n
@@ -79,7 +79,7 @@ pub above : (z : ℤ) → (pos 1024 *ℤ z) ≤ℤ pos (1024 * unsigned_abs z)
 above (pos n) = omega (arith, ints)
 above (negsuc n) = omega (arith, ints)
 
--- a texel more in a sum of targets, in a sum of products with a channel, and in the squares
+-- a sum of targets, a sum of products with a channel, and the squares, after one more texel
 pub value_more : (c d e f g : ℤ) (n s u w x t v y z : ℕ)
     → c *ℤ pos (n + 1) +ℤ (d *ℤ pos (s + t) +ℤ e *ℤ pos (u + v) +ℤ f *ℤ pos (w + y)
     +ℤ g *ℤ pos (x + z))

@@ -1,4 +1,4 @@
--- Floors of one channel, of channels that count more or less, of several channels.
+-- Lower bounds on the error in one channel, in a channel with a weight, and in several channels.
 use Rattle.std.proofs.Common.{◌≡◌, ℕ, zero, suc, ◌+◌, ◌-◌, ◌*◌, ◌^◌, ◌<◌, ◌≤◌, List, [], ◌∷◌, get_or, refl, sym, arith}
 use Rattle.std.proofs.Math.Nat.{mul-le-mul_left}
 use Rattle.astc_model.specs.Sums.{sum_to}
@@ -60,13 +60,13 @@ floored_plus {more} {less} {e} {w} {more_too} {less_too} {e_too} {w_too} h k = r
         → 2 * (p * (t * (s + s_too))) ≤ t * t * (e + e_too) + p * p * (w + w_too)
     both p t s s_too e e_too w w_too one two = omega arith
 
--- if the form is far enough, the error is at least the limit
+-- if the form is at least `most` for a limit, the error is at least the limit
 pub floored_law : (more less e w most limit : ℕ) → IsFloored more less e w → IsMost most limit w
     → most + less ≤ more → limit ≤ e
 floored_law more less e w most limit h far reached =
     floor_law h.form e h.distance w limit far.root h.moved h.spread far.covered (omega arith)
 
--- the sum over the texels moves by what each texel moves
+-- if rounding moves each term by a bounded amount, it moves the sum by the sum of these
 sum_moved : (q e s : ℕ → ℕ) (n : ℕ) → ((i : ℕ) → i < n → q i ≤ 2 ^ 26 * (4 * e i + 4 * s i + 1))
     → sum_to q n ≤ 2 ^ 26 * (4 * sum_to e n + 4 * sum_to s n + n)
 unfolding sum_to
@@ -77,7 +77,7 @@ sum_moved q e s (suc n) each =
     let last : q n ≤ 2 ^ 26 * (4 * e n + 4 * s n + 1) = each n (omega arith) in
     omega (arith, before, last)
 
--- one channel: the moments give the form
+-- the form that is computed from the moments is a lower bound on the error of one channel
 pub floored_channel : (widening : Widening) (first second : ℕ) (weights wanted : List ℕ) (n : ℕ)
     (m : Moments)
     → IsMoments widening weights wanted n m → AreWeights weights n
@@ -119,7 +119,7 @@ floored_channel widening first second weights wanted n m kept fit =
       spread = λ p t. rw squares (sums_law d p t n);
     }
 
--- the error of a channel, one texel more
+-- the error of a channel over no texel, and over one more texel
 pub error_none : (widening : Widening) (first second : ℕ) (weights wanted : List ℕ)
     → channel_error widening first second weights wanted 0 ≡ 0
 unfolding channel_error sum_to
@@ -134,7 +134,7 @@ error_more widening first second weights wanted n =
     sum_to-more (λ i. squared_difference (shown widening first second (get_or weights i 0))
     (get_or wanted i 0)) n
 
--- one channel, with the sum of squares itself
+-- the sum of squares itself is a lower bound on the error of one channel
 pub exact_channel : (widening : Widening) (first second : ℕ) (weights wanted : List ℕ) (n : ℕ)
     → AreWeights weights n
     → IsFloored (sum_to (λ i.
@@ -166,7 +166,7 @@ exact_channel widening first second weights wanted n fit =
       spread = λ p t. rw squares (sums_law d p t n);
     }
 
--- ---- one texel more, over the moments of any
+-- ---- the moments after one more texel
 
 more_grown : (m : Moments) (u w z f g : ℕ) → more_of (with_texel m u w z) f g
     ≡ more_of m f g + more_of (with_texel no_moments u w z) f g

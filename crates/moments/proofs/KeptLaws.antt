@@ -1,4 +1,4 @@
--- The kept moments, one texel more.
+-- The computed moments after one more texel.
 use Rattle.std.proofs.Common.{◌≡◌, ℕ, ◌+◌, ◌-◌, ◌*◌, ◌^◌, ◌<◌, ◌≤◌, List, get_or, refl, ap, sym, ◌∙◌, arith}
 use Rattle.std.proofs.lemmas.Nat.{mul-le}
 use Rattle.astc_model.specs.Sums.{sum_to}
@@ -55,12 +55,12 @@ one_within n m first second aim kept first_small second_small aim_small = record
   target_squares_within = omega (arith, mul-le aim aim 4186080 4186080 aim_small aim_small);
 }
 
--- products of two scaled ends and a moment
+-- the product of two endpoints and a moment fits 52 bits
 pub product_fits : (a b c : ℕ) → a < 2 ^ 16 → b < 2 ^ 16 → c < 2 ^ 20 → a * b * c ≤ 2 ^ 52
 product_fits a b c a_fits b_fits c_fits = mul-le (a * b) c (2 ^ 32) (2 ^ 20)
     (mul-le a b (2 ^ 16) (2 ^ 16) (omega arith) (omega arith)) (omega arith)
 
--- the moments of fewer texels are within those of more
+-- the ranges for fewer texels are within those for more
 pub within_more : (n k : ℕ) (m : Moments) → n ≤ k → IsWithin n m → IsWithin k m
 within_more n k m few is = record {
   first_squares_within = omega (arith, is.first_squares_within);

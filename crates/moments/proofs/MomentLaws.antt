@@ -1,11 +1,11 @@
--- A sum of squared differences is a form in the two ends, whose coefficients are sums over the
--- texels.
+-- A sum of squared differences is a quadratic form of the two endpoints, whose coefficients are
+-- sums over the texels.
 use Rattle.std.proofs.Common.{◌≡◌, ℕ, zero, suc, ◌+◌, ◌*◌, arith}
 use Rattle.astc_model.specs.Sums.{sum_to}
 use Rattle.astc_model.specs.Errors.{squared_difference}
 use Rattle.moments.proofs.MeanSquareLaws.{square_law}
 
--- one texel, over plain numbers
+-- the equation for one texel
 one : (f g u w z q : ℕ) → q + 2 * ((f * u + g * w) * z) ≡ (f * u + g * w) * (f * u + g * w) + z * z
     → q + 2 * (f * (u * z) + g * (w * z))
     ≡ f * f * (u * u) + 2 * (f * g * (u * w)) + g * g * (w * w) + z * z

@@ -1,4 +1,4 @@
--- Rounding moves a channel by at most half a step.
+-- Rounding changes a decoded channel by at most half a step.
 use Rattle.std.proofs.Common.{◌≡◌, ℕ, ◌+◌, ◌-◌, ◌*◌, ◌/◌, ◌^◌, ◌≤◌, arith, inl, inr}
 use Rattle.std.proofs.lemmas.Bool.{cases_lt}
 use Rattle.std.proofs.Math.Nat.{mul-le-mul}
@@ -7,7 +7,7 @@ use Rattle.moments.specs.Floors.{shown, factor_of, blend, target, apart}
 use Rattle.moments.specs.declared.Widening.{Widening}
 use Rattle.moments.specs.declared.Widening.TheVariants.{Repeated, Centred}
 
--- over plain numbers: n is 64 times the exact value
+-- the distance of the blend from its target for each widening, where n is 64 times the exact value
 repeated : (n s : ℕ) → apart (257 * n) (16384 * s + 8160) ≤ 16384 * apart
     ((257 * n + 32) / 64 / 256) s + 8192
 repeated n s = omega arith
@@ -29,8 +29,8 @@ centred_factor : (first second u w : ℕ) → 256 * first * u + 256 * second * w
     ≡ 256 * (first * u + second * w)
 centred_factor first second u w = omega arith
 
--- the blend is at most half a step farther from its target than the shown channel from the source's
--- channel
+-- the blend is farther from its target than the decoded channel from that of the source by at most
+-- half a step
 pub near : (widening : Widening) (first second weight wanted : ℕ) → weight ≤ 64
     → apart (blend (factor_of widening * first) (factor_of widening * second) weight)
     (target widening wanted)
@@ -55,7 +55,7 @@ squared_difference-apart a b =
       | inr more ↦ let none : b - a ≡ 0 = omega arith in rw none (omega arith)
     ]
 
--- the same of squares
+-- the same bound for squares
 pub near_square : (x z t s : ℕ) → apart x z ≤ 16384 * apart t s + 8192
     → squared_difference x z ≤ 2 ^ 26 * (4 * squared_difference t s + 4 * apart t s + 1)
 near_square x z t s close =
@@ -66,7 +66,7 @@ near_square x z t s close =
     over_plain v d close = let squares : v * v ≤ (16384 * d + 8192) * (16384 * d + 8192) =
         mul-le-mul close close in omega arith
 
--- what is shown, from the blend
+-- the decoded byte, from the blend
 pub shown_repeated : (first second weight : ℕ) → (257 * blend first second weight + 32) / 16384
     ≡ shown Repeated first second weight
 shown_repeated first second weight =

@@ -1,9 +1,9 @@
--- Every texel belongs to a part that its block has.
+-- Every texel belongs to a partition that its block has.
 use Rattle.std.proofs.Common.{◌≡◌, ◌≢◌, ℕ, zero, suc, ◌<◌, ◌≤◌, ◌==◌, Bool, true, false, if◌then◌else◌, refl, arith}
 use Rattle.std.proofs.lemmas.Bool.{eqb-false}
 use Rattle.astc_model.specs.Partitions.{first_greatest, score, score_if, part_of, part_at, hash52, hashed_seed, x_shift, y_shift, doubled}
 
--- the first greatest of four scores, and of three or two if the others are 0
+-- the index of the greatest score is below 4; below 3 or 2 if the last scores are 0
 first_greatest-lt : (a b c d : ℕ) → first_greatest a b c d < 4
 first_greatest-lt a b c d = grind arith
 
@@ -22,7 +22,7 @@ first_greatest-parts (suc (suc (suc zero))) a b c d several few = first_greatest
 first_greatest-parts (suc (suc (suc (suc zero)))) a b c d several few = first_greatest-lt a b c d
 first_greatest-parts (suc (suc (suc (suc (suc parts))))) a b c d several few = absurd (omega arith)
 
--- in a block of several parts, the part is under their number
+-- in a block of several partitions, the partition of a texel is below their number
 pub part_at-lt : (parts n x y : ℕ) → 2 ≤ parts → parts ≤ 4 → part_at parts n x y < parts
 unfolding part_at
 part_at-lt parts n x y several few =
@@ -32,7 +32,7 @@ part_at-lt parts n x y several few =
     first_greatest-parts parts (score r s t 0 x y) (score r s t 1 x y) (score r s t 2 x y)
     (score r s t 3 x y) several few
 
--- one part, or several
+-- the same for one partition or several
 one_or_more : (b : Bool) (parts part : ℕ) → (parts == 1) ≡ b → 1 ≤ parts
     → (2 ≤ parts → part < parts) → (if b then 0 else part) < parts
 one_or_more true parts part one some several = some
@@ -41,7 +41,7 @@ one_or_more false parts part one some several =
     let more : 2 ≤ parts = omega arith in
     several more
 
--- the part is under the number of parts
+-- the partition of a texel is below the number of partitions
 pub part_of-lt : (w h parts seed x y : ℕ) → 1 ≤ parts → parts ≤ 4
     → part_of w h parts seed x y < parts
 unfolding part_of

@@ -1,4 +1,4 @@
--- A number of 32 bits, shifted right by two or more bits.
+-- Shifts of a 32-bit number to the right by two or more bits.
 use Rattle.std.proofs.Common.{ℕ, ◌*◌, ◌/◌, ◌^◌, ◌<◌, ◌≤◌, arith}
 use Rattle.std.proofs.Math.Nat.{pow-le-pow_right, mul-div-le, mul-le-mul_right}
 

@@ -1,4 +1,4 @@
--- Each table of colour values is the list of the formula's values.
+-- Each table of unquantized colour values equals the list of the formula's values.
 use Rattle.std.proofs.Common.{◌≡◌, refl}
 use Rattle.astc_model.specs.ColourValues.{colour_value}
 use Rattle.astc_model.specs.declared.level.Level.TheVariants.{Six, Eight, Ten, Twelve, Sixteen, Twenty, TwentyFour, ThirtyTwo, Forty, FortyEight, SixtyFour, Eighty, NinetySix, OneTwentyEight, OneSixty, OneNinetyTwo, TwoFiftySix}

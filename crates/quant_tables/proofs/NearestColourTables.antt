@@ -1,5 +1,5 @@
--- Each table of nearest integers is the list of what the search through the level's colour values
--- finds.
+-- Each table of closest integers equals the results of the search through the colour values of the
+-- level.
 use Rattle.std.proofs.Common.{◌≡◌, refl}
 use Rattle.astc_model.specs.Nearest.{nearest_colour}
 use Rattle.astc_model.specs.ColourValues.{colour_value}

@@ -1,4 +1,4 @@
--- Each table is the list of the values of the nearest integers.
+-- Each table equals the list of the values of the closest integers.
 use Rattle.std.proofs.Common.{◌≡◌, refl}
 use Rattle.astc_model.specs.ColourValues.{colour_value}
 use Rattle.astc_model.specs.Nearest.{nearest_colour}

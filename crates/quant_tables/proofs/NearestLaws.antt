@@ -1,4 +1,4 @@
--- The search through the integers of a level finds the nearest one, and the least of those.
+-- The search through the integers of a level finds the closest one, and at a tie the least.
 use Rattle.std.proofs.Common.{◌≡◌, ℕ, zero, suc, ◌<◌, ◌≤◌, Bool, true, false, cond, nat_lt, refl, arith, inl, inr}
 use Rattle.std.proofs.lemmas.Bool.{cases_lt, ltb-true, ltb-false}
 use Rattle.std.specs.Int.{abs_diff}
@@ -9,7 +9,7 @@ use Rattle.astc_model.specs.WeightValues.{weight_value}
 use Rattle.astc_model.specs.declared.level.Level.{Level}
 use Rattle.astc_model.specs.declared.level.Level.TheVariants.{Two, Three, Four, Five, Six, Eight, Ten, Twelve, Sixteen, Twenty, TwentyFour, ThirtyTwo, Forty, FortyEight, SixtyFour, Eighty, NinetySix, OneTwentyEight, OneSixty, OneNinetyTwo, TwoFiftySix}
 
--- one integer more, by the outcome of its comparison with the best so far
+-- a step of the search, by the result of the comparison with the best integer so far
 more_is : (value : ℕ → ℕ) (v n best : ℕ) (b : Bool) → nat_lt (abs_diff (value n) v)
     (abs_diff (value best) v) ≡ b → IsNearest value n v best
     → IsNearest value (suc n) v (cond b n best)
@@ -55,12 +55,12 @@ nearest_below-is value v (suc n) = more_is value v (suc n) (nearest_below value 
     (nat_lt (abs_diff (value (suc n)) v) (abs_diff (value (nearest_below value v (suc n))) v)) refl
     (nearest_below-is value v n)
 
--- the same for any count over 0
+-- the search over any number of integers above 0
 nearest_of_count : (value : ℕ → ℕ) (v n : ℕ) → 0 < n → IsNearest value n v (nearest_below value v n)
 nearest_of_count value v zero some = absurd (omega arith)
 nearest_of_count value v (suc n) some = nearest_below-is value v n
 
--- every level has values
+-- every level has integers
 pub count_of-pos : (level : Level) → 0 < count_of level
 count_of-pos Two = omega arith
 count_of-pos Three = omega arith

@@ -1,5 +1,4 @@
--- Each table of nearest integers is the list of what the search through the level's weight values
--- finds.
+-- Each table of closest integers equals the results of the search through the weights of the level.
 use Rattle.std.proofs.Common.{◌≡◌, refl}
 use Rattle.astc_model.specs.Nearest.{nearest_weight}
 use Rattle.astc_model.specs.WeightValues.{weight_value}

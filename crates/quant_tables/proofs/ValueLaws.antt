@@ -1,4 +1,4 @@
--- Laws of colour and weight values: their greatest values.
+-- The greatest unquantized colour values and weights.
 use Rattle.std.proofs.Common.{ℕ, ◌<◌, ◌≤◌, IsTrue, nat_le, refl}
 use Rattle.std.proofs.lemmas.Bool.{leb-true}
 use Rattle.astc_model.specs.ColourValues.{colour_value}
@@ -9,7 +9,7 @@ use Rattle.astc_model.specs.declared.level.Level.{Level}
 use Rattle.astc_model.specs.declared.level.Level.TheVariants.{Two, Three, Four, Five, Six, Eight, Ten, Twelve, Sixteen, Twenty, TwentyFour, ThirtyTwo, Forty, FortyEight, SixtyFour, Eighty, NinetySix, OneTwentyEight, OneSixty, OneNinetyTwo, TwoFiftySix}
 use Rattle.astc_model.proofs.SumLaws.{every_below}
 
--- a bound that a test of all numbers below n finds
+-- a bound on all values below n, found by a test
 most_below : (value : ℕ → ℕ) (m n i : ℕ) → IsTrue (all_below (λ k. nat_le (value k) m) n) → i < n
     → value i ≤ m
 most_below value m n i all lt =

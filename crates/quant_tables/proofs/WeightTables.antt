@@ -1,4 +1,4 @@
--- Each table of weight values is the list of the formula's values.
+-- Each table of unquantized weights equals the list of the formula's values.
 use Rattle.std.proofs.Common.{◌≡◌, refl}
 use Rattle.astc_model.specs.WeightValues.{weight_value}
 use Rattle.astc_model.specs.declared.level.Level.TheVariants.{Two, Three, Four, Five, Six, Eight, Ten, Twelve, Sixteen, Twenty, TwentyFour, ThirtyTwo}

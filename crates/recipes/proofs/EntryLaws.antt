@@ -1,4 +1,4 @@
--- The recipe at a place of the list, by division and not by going through the list.
+-- The recipe at an index of the list is found by division, without going through the list.
 use Rattle.std.proofs.Common.{◌≡◌, ℕ, zero, suc, ◌+◌, ◌-◌, ◌*◌, ◌/◌, ◌%◌, ◌<◌, ◌≤◌, nat_lt, List, [], ◌∷◌, ◌++◌, map, length, get_or, refl, ap, ◌∙◌, arith, Bool, true, false, if◌then◌else◌, length-append, mul_comm, take, drop, length-drop, div-lt_iff_lt-mul}
 use Rattle.std.proofs.lemmas.List.{get_or_append_left, get_or-append-add, get_or-append_right, get_or-take, get_or-drop, length-take-le}
 use Rattle.std.proofs.lemmas.Bool.{ltb-true, ltb-false}
@@ -12,7 +12,7 @@ use Rattle.recipes.specs.Shapes.{shapes}
 use Rattle.astc_model.specs.declared.preset.Preset.TheVariants.{Flat, Quick, Medium, Thorough, Pairs}
 use Rattle.std.specs.Prelude.{slice_index_or}
 
--- lists of one length in a row
+-- the length of a list that consists of lists of equal length
 pub length-rows : {X Y : Type 0} (f : X → List Y) (w : ℕ) → ((x : X) → length (f x) ≡ w)
     → (xs : List X) → length (flat_map f xs) ≡ length xs * w
 length-rows f w each [] = omega arith
@@ -21,7 +21,7 @@ length-rows f w each (x ∷ xs) =
     let rest : length (flat_map f xs) ≡ length xs * w = length-rows f w each xs in
     simp length-append (omega (arith, here, rest))
 
--- the entry in column r of row q
+-- entry r of list q in a list that consists of lists of equal length
 pub get_or-rows : {X Y : Type 0} (f : X → List Y) (w : ℕ) → ((x : X) → length (f x) ≡ w)
     → (xs : List X) (q r : ℕ) (d : Y) (e : X) → q < length xs → r < w
     → get_or (flat_map f xs) (q * w + r) d ≡ get_or (f (get_or xs q e)) r d
@@ -71,7 +71,7 @@ length-recipes_of modes group =
     (range_with_len 0 group.seeds)
     ∙ ap (λ n. n * (modes * length group.entries)) (length-range_with_len 0 group.seeds)
 
--- the recipe of a group at a place that is given by its seed, its mode and its entry
+-- the recipe of a group at the index for a seed, a mode and an entry
 at_of_group : (modes : ℕ) (group : Group) (seed mode k : ℕ) → seed < group.seeds → mode < modes
     → k < length group.entries → mode * length group.entries + k < modes * length group.entries
     → get_or (recipes_of modes group)
@@ -141,7 +141,7 @@ length-flat_map_recipes modes (group ∷ rest) =
 rest_below : {a b i : ℕ} → a ≤ i → i < a + b → i - a < b
 rest_below h k = omega arith
 
--- whether the place is within the first group
+-- the index belongs to the first group or to a later one
 first_or_later : (modes : ℕ) (group : Group) (rest : List Group) (i : ℕ) (b : Bool)
     → nat_lt i (size_of modes group) ≡ b → i < size_of_all modes (group ∷ rest)
     → ((j : ℕ) → j < size_of_all modes rest → get_or (flat_map (recipes_of modes) rest) j no_recipe
@@ -180,7 +180,7 @@ unfolding recipes
 at_recipes preset i below = at_groups 2048 (groups preset) i
     (rw (← length-flat_map_recipes 2048 (groups preset)) below)
 
--- ---- rows of expected values
+-- ---- computed values for the lists
 
 at_1075 : entry_at 2048 (groups Quick) 1075 ≡ record {
   mode = 537;
@@ -213,13 +213,13 @@ sizes : (size_of_all 2048 (groups Quick) ≡ 4096) × (size_of_all 2048 (groups 
 unfolding groups
 sizes = (refl, refl, refl)
 
--- the number of shapes
+-- the numbers of shapes of the presets
 shape_counts : (length (shapes Quick) ≡ 2) × (length (shapes Medium) ≡ 29)
     × (length (shapes Thorough) ≡ 265)
 unfolding groups
 shape_counts = (refl, refl, refl)
 
--- ---- the counts
+-- ---- the numbers of recipes
 
 pub flat_count : length (recipes Flat) ≡ 0
 unfolding groups

@@ -1,4 +1,4 @@
--- The fields of each shape are in range.
+-- The fields of all shapes are in range.
 use Rattle.std.proofs.Common.{◌≡◌, ℕ, ◌<◌, Bool, true, false, ◌&&◌, ◌||◌, ◌==◌, not, nat_le, nat_lt, IsTrue, refl, arith, rules}
 use Rattle.std.specs.List.{All, list_all}
 use Rattle.std.proofs.lemmas.Bool.{and_parts, ltb-true, leb-true, eqb-true}
@@ -83,7 +83,7 @@ recipe_is mode shape small is = record {
   };
 }
 
--- every recipe of a preset has its fields in range
+-- the fields of all recipes of a preset are in range
 pub all_are_recipes : (preset : Preset) → All IsRecipe (recipes preset)
 all_are_recipes preset =
     All-from_recursion IsRecipe (recipes preset)

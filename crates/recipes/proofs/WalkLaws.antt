@@ -1,4 +1,5 @@
--- A property holds for each recipe of a preset exactly if it holds for each shape with each mode.
+-- A property holds for all recipes of a preset exactly if it holds for all its shapes with all
+-- block modes.
 use Rattle.std.proofs.Common.{◌≡◌, ℕ, zero, suc, ◌+◌, ◌<◌, ◌≤◌, List, [], ◌∷◌, ◌++◌, map, arith, Option, None, Some, inl, inr}
 use Rattle.std.proofs.lemmas.Bool.{cases_lt}
 use Rattle.std.specs.Option.{IfSome}
@@ -46,7 +47,7 @@ pub all-weaker : {X : Type 0} (P Q : X → Type 0) → ((x : X) → P x → Q x)
 all-weaker P Q h [] a = a
 all-weaker P Q h (x ∷ xs) a = (h x a.0, all-weaker P Q h xs a.1)
 
--- each number of a range
+-- a property of each number of a range
 pub all-range : (P : ℕ → Type 0) (a n : ℕ) → ((k : ℕ) → a ≤ k → k < a + n → P k)
     → AllByRecursion P (range_with_len a n)
 all-range P a zero h = tt
@@ -64,7 +65,7 @@ range-all P a (suc n) all k low high = elim (cases_lt a k) [
   | inr not_above ↦ let same : k ≡ a = omega arith in rw same all.0
 ]
 
--- what holds of each x for each y holds of each y for each x
+-- "for all x and all y" is "for all y and all x"
 pub exchanged : {X Y : Type 0} (P : X → Y → Type 0) (xs : List X) (ys : List Y)
     → AllByRecursion (λ x. AllByRecursion (P x) ys) xs
     → AllByRecursion (λ y. AllByRecursion (λ x. P x y) xs) ys
@@ -77,7 +78,8 @@ exchanged P xs (y ∷ ys) a = (
 
 -- ---- a group
 
--- each recipe of a group, if each mode with each shape of the group
+-- if a property holds for each shape of a group with each mode, it holds for each recipe of the
+-- group
 pub group_walk : (P : Recipe → Type 0) (modes : ℕ) (group : Group)
     → AllByRecursion (λ mode. AllByRecursion (λ shape. P (with_mode mode shape)) (shapes_of group))
     (range_with_len 0 modes) → AllByRecursion P (recipes_of modes group)
@@ -214,7 +216,7 @@ all_meets_walk P preset a mode below =
     range-all (λ mode. AllByRecursion (λ shape. P (with_mode mode shape)) (shapes preset)) 0 2048
     (groups_listed P 2048 (groups preset) a) mode (omega arith) (omega arith)
 
--- ---- what a function gives of a list
+-- ---- properties of a list after a function is applied
 
 some_or_none : {Y : Type 0} (P : Y → Type 0) (o : Option Y) (ys : List Y) → IfSome o P
     → AllByRecursion P ys → AllByRecursion P (cons_option o ys)

@@ -1,4 +1,4 @@
--- The two colours of each place, and the entries of its partition in tables of them.
+-- The arrays with the endpoints of each place, and with the table indices of its partition.
 use Rattle.std.proofs.Common.{◌≡◌, ℕ, zero, suc, ◌+◌, ◌-◌, ◌*◌, ◌/◌, ◌<◌, List, [], ◌∷◌, length, get_or, refl, ap, sym, subst, ◌∙◌, arith, inl, inr}
 use Rattle.std.proofs.lemmas.Bool.{cases_lt}
 use Rattle.astc_model.specs.Places.{Texel, channel}
@@ -9,7 +9,7 @@ use Rattle.texel_error.specs.Shown.{Ends}
 use Rattle.texel_error.specs.declared.colours.EndTables.{EndTables}
 use Rattle.texel_error.proofs.SourceLaws.{all_lanes, lane_above, lane_below, own_lane}
 
--- one place more
+-- a step that stores the texel of one more place
 pub lane_more : (lanes : List ℕ) (texel : ℕ → Texel) (n : ℕ) → 4 * n + 3 < length lanes
     → ((p c : ℕ) → p < n → c < 4 → get_or lanes (4 * p + c) 0 ≡ channel c (texel p))
     → (own : Texel) → own ≡ texel n → (p c : ℕ) → p < n + 1 → c < 4
@@ -24,7 +24,7 @@ lane_more lanes texel n room are own is p c below l =
           (own_lane lanes n own room c l ∙ ap (channel c) is)
     ]
 
--- ---- the colours of partitions
+-- ---- the endpoints of partitions
 
 pub tables_more : (ends : List Ends) (n : ℕ) (firsts seconds : List ℕ)
     → AreEndTables ends n (record { firsts = firsts; seconds = seconds }) → n < 4 → (own : Ends)
@@ -42,9 +42,9 @@ tables_more ends n firsts seconds are few own is =
           (ap (λ pair. pair.1) is);
     }
 
--- ---- the entries of places
+-- ---- the table indices of places
 
--- the four entries of a partition
+-- the table indices of a partition
 abbrev pub entries : ℕ → List ℕ
 entries part = 4 * part ∷ (4 * part + 1) ∷ (4 * part + 2) ∷ (4 * part + 3) ∷ []
 
@@ -91,7 +91,7 @@ partitions_more parts p lanes are below part is few =
       small = small_more lanes p part room few are.small;
     }
 
--- ---- the entries of tables
+-- ---- look-ups of table entries
 
 pub picked_more : (g : ℕ) (table entries lanes own picked bytes new : List ℕ) → entries ≡ table
     → HasLanes 16 own (λ k. get_or lanes (16 * g + k) 0)

@@ -1,4 +1,4 @@
--- The errors of the groups sum up to that of the block, in whatever order.
+-- The errors of the groups have the error of the block as their sum, in any order of the groups.
 use Rattle.std.proofs.Common.{◌≡◌, ℕ, ◌*◌, ◌≤◌, ◌/◌, ◌%◌, false, List, get_or, length, take, Option, None, Some, refl, ap, sym, ◌∙◌, arith, inl, inr}
 use Rattle.std.proofs.Math.Seq.{take_all}
 use Rattle.std.proofs.lemmas.List.{get_or_past}
@@ -18,13 +18,13 @@ use Rattle.texel_error.specs.declared.order.RankedGroup.{RankedGroup}
 use Rattle.texel_error.proofs.LaneLaws.{four_same}
 use Rattle.texel_error.proofs.PointLaws.{drawn_texel-is}
 
--- a place that is not inside has no error
+-- a place outside the image has no error
 outside_none : (weights : Weighting) (shown : Texel) (place : Option Texel) → is_some place ≡ false
     → place_error weights shown place ≡ 0
 outside_none weights shown None is = refl
 outside_none weights shown (Some expected) is = cc
 
--- the sum over as many as there are, or more
+-- the sum over a prefix that is at least as long as the list
 pub sum_all : (f : RankedGroup → ℕ) (groups : List RankedGroup) (n : ℕ) → length groups ≤ n
     → sum_by f (take n groups) ≡ sum_by f groups
 sum_all f groups n enough = ap (sum_by f) (take_all n groups enough)
@@ -63,7 +63,7 @@ module _ (w h : ℕ) (goal : GoalView) (outline : Outline) (can : CanDraw w h ou
             (drawn_texel-is w h goal.flavour outline can coded is p below)
       ]
 
-  -- the errors of a group are those of the block
+  -- the errors of a group are those that the block has there
   pub group_same : (g : ℕ)
       → four_sum (drawn_error goal.flavour outline goal.weights goal.places) g
       ≡ four_sum (block_error_at w h goal.flavour goal.weights (Coded coded) goal.places) g

@@ -1,4 +1,4 @@
--- The weights of four neighbouring texels, from the lanes that they are made of.
+-- The weights of four neighbouring texels, computed from the lanes of their places.
 use Rattle.std.proofs.Common.{◌≡◌, ℕ, ◌+◌, ◌*◌, ◌<◌, ◌≤◌, List, get_or, ap, sym, ◌∙◌, arith}
 use Rattle.std.specs.Prelude.{slice_index}
 use Rattle.std.proofs.lemmas.List.{get_or-map}
@@ -27,14 +27,14 @@ four_small a b c d e f g h p q r s total =
 
 module _ (n : ℕ) (few : n ≤ 144) (points : DrawnPoints) (have : HaveValues n points)
     (own : GroupOrigins) (is : IsOriginGroup n own) where
-  -- the targets at the places of the lanes
+  -- the targets at the places of the lanes are at most 64
   pub targets_small : (targets : List ℕ)
       → HasLanes 16 targets (λ k. get_or points.targets.now (place_of_lane own k) 0)
       → (k : ℕ) → k < 16 → get_or targets k 0 ≤ 64
   targets_small targets lanes k l =
       omega (arith, lanes.each k l, have.targets (place_of_lane own k) (is.within k l))
 
-  -- the value of a place
+  -- the weight for the target of a place
   value_at : (p : ℕ) → p < n → get_or (values_of points) p 0
       ≡ get_or points.values.now (get_or points.targets.now p 0) 0
   unfolding values_of

@@ -1,4 +1,4 @@
--- The channels that the lanes of a group show, and their errors.
+-- The decoded channels of the lanes of a group, and their errors.
 use Rattle.std.proofs.Common.{◌≡◌, ℕ, ◌+◌, ◌-◌, ◌*◌, ◌/◌, ◌%◌, ◌<◌, ◌≤◌, ◌==◌, Bool, true, false, cond, List, get_or, refl, ap, sym, ◌∙◌, arith}
 use Rattle.std.proofs.lemmas.Bool.{eqb-true, eqb-false, eq-eqb, ne_eqb}
 use Rattle.std.proofs.lemmas.Nat.{mul-le}
@@ -20,7 +20,7 @@ use Rattle.texel_error.specs.declared.order.SourceLanes.{SourceLanes}
 
 -- ---- the weights of channels
 
--- the channel before number p, or the second plane's channel
+-- channel c is the component p of the second plane
 pub channel_test : (p c : ℕ) → 0 < p → (c == p - 1) ≡ (p == c + 1)
 channel_test p c some = by (c == p - 1) refl
   where
@@ -55,7 +55,7 @@ two_planes outline own t c p is some =
     by true = refl
     by false = refl
 
--- the weights of the channels of two planes, from texel t on
+-- the weights of the channels of two texels, from texel t on, with two planes
 pub chosen_is : (outline : Outline) (own : GroupOrigins) (t : ℕ) → t ≤ 2 → (p : ℕ)
     → p ≡ outline.plane → 0 < p → (first second ones others chosen : List ℕ)
     → HasLanes 4 first (λ t. rounded (share_sum (values_of outline.first) (group_pairs own t)))
@@ -76,7 +76,7 @@ chosen_is outline own t few p is some first second ones others chosen are_first 
           ∙ two_planes outline own (t + k / 4) (k % 4) p is some;
     }
 
--- ---- the bytes of mixes
+-- ---- decoded bytes of interpolations
 
 pub mix_small : (a b w : ℕ) → a ≤ 255 → b ≤ 255 → w ≤ 64 → mix_of a b w ≤ 16320
 mix_small a b w p q r =
@@ -129,7 +129,7 @@ lane_at flavour outline k g t c in_group is of_channel =
     of_channel
 
 module _ (flavour : Flavour) (outline : Outline) (lanes : SourceLanes) (g : ℕ) where
-  -- eight lanes from one on, of the texels from t on
+  -- eight lanes: two texels from texel t on
   pub eight_lanes : (at t : ℕ) → at ≡ 16 * g + 4 * t → t ≤ 2 → (weights shown squares : List ℕ)
       → HasLanes 8 weights (λ k. weight_in outline (group_at outline g) (t + k / 4) (k % 4))
       → HasLanes 8 shown (λ k. top_of flavour (k % 4)
@@ -153,7 +153,7 @@ module _ (flavour : Flavour) (outline : Outline) (lanes : SourceLanes) (g : ℕ)
 pub both_same : (a b c d : ℕ) → a ≡ c → b ≡ d → a + b ≡ c + d
 both_same a b c d p q = omega arith
 
--- sixteen lanes are those of four places
+-- the sum over sixteen lanes is the sum over the lanes of four places
 pub sixteen_lanes : (f : ℕ → ℕ) (g : ℕ) → eight_sum (λ k. f (16 * g + k))
     + eight_sum (λ k. f (16 * g + 8 + k)) ≡ four_sum (lane_sum f) g
 sixteen_lanes f g =
@@ -189,7 +189,7 @@ four_same f h g same =
       same (4 * g + 3) (omega arith) (omega arith),
     )
 
--- the errors of the lanes are those of the places
+-- the errors of the lanes of a group are those of its places
 pub group_is : (flavour : Flavour) (outline : Outline) (lanes : SourceLanes) (weights : Weighting)
     (places : List (Option Texel)) (n g : ℕ) → AreSourceLanes places weights n lanes
     → eight_sum (λ k. lane_error lanes (drawn_lane flavour outline) (16 * g + k))

@@ -1,4 +1,4 @@
--- Sums that are given up at a limit.
+-- Sums of errors that are computed only up to a limit.
 use Rattle.std.proofs.Common.{◌≡◌, ℕ, zero, suc, ◌+◌, ◌*◌, ◌<◌, ◌≤◌, nat_lt, ◌&&◌, Bool, true, false, cond, List, get_or, refl, ap, add-one, arith, inl, inr, Option, None, Some}
 use Rattle.std.proofs.lemmas.Bool.{cases_lt, lt-ltb, le-ltb}
 use Rattle.astc_model.specs.Sums.{sum_to}
@@ -13,7 +13,7 @@ use Rattle.texel_error.specs.Limited.{count_under, under, steps_under}
 use Rattle.texel_error.specs.Decoding.{error_of_place, Shows}
 use Rattle.texel_error.specs.declared.decoded.Decoded.{Decoded}
 
--- a sum to more places is at least as large
+-- a sum over more places is at least as large
 pub sum_to-further : (f : ℕ → ℕ) (p n : ℕ) → p ≤ n → sum_to f p ≤ sum_to f n
 unfolding sum_to
 sum_to-further f p zero within = let none : p ≡ 0 = omega arith in rw none (omega arith)
@@ -29,7 +29,7 @@ unfolding count_under
 count_under-further f places limit p n within =
     sum_to-further (λ k. cond (is_inside places k && nat_lt (sum_to f k) limit) 1 0) p n within
 
--- one place more, if the sum before it is under the limit
+-- one more place is counted if it is inside and the sum before it is under the limit
 pub count_under-more : (f : ℕ → ℕ) (places : List (Option Texel)) (limit p : ℕ) → sum_to f p < limit
     → count_under f places limit (p + 1) ≡ count_under f places limit p + cond
     (is_inside places p) 1 0
@@ -49,7 +49,7 @@ pub under-some : (limit n sum : ℕ) → n ≡ sum → n < limit → Some n ≡ 
 under-some limit n sum is below = let less : nat_lt sum limit ≡ true =
     lt-ltb sum limit (omega (arith, is, below)) in rw (is, less) refl
 
--- the same errors, the same steps
+-- with equal errors the number of steps is equal
 pub count_under-same : (f g : ℕ → ℕ) (places : List (Option Texel)) (limit n : ℕ)
     → ((p : ℕ) → p < n → f p ≡ g p) → count_under f places limit n ≡ count_under g places limit n
 unfolding count_under
@@ -57,7 +57,7 @@ count_under-same f g places limit n same =
     sum_to-same _ (λ k. cond (is_inside places k && nat_lt (sum_to g k) limit) 1 0) n
     (λ k below. rw (sum_to-same f g k (λ p lt. same p (omega arith))) refl)
 
--- ---- the error of a block whose places show what it shows
+-- ---- the error of a prepared block
 
 module _ (w h : ℕ) (flavour : Flavour) (weights : Weighting) (block : Block) (decoded : Decoded)
     (source : List (Option Texel)) where

@@ -1,4 +1,4 @@
--- Mixes of two ends by their bytes.
+-- Interpolation of endpoints from their bytes.
 use Rattle.std.proofs.Common.{◌≡◌, ℕ, ◌+◌, ◌-◌, ◌*◌, ◌/◌, ◌≤◌, ◌==◌, Bool, true, false, cond, arith}
 use Rattle.astc_model.specs.declared.flavour.Flavour.{Flavour}
 use Rattle.astc_model.specs.declared.flavour.Flavour.TheVariants.{Linear, Srgb}
@@ -13,7 +13,7 @@ centred : (a b w mix : ℕ) → w ≤ 64 → mix ≡ a * (64 - w) + b * w → (2
     ≡ mixed (256 * a + 128) (256 * b + 128) w / 256
 centred a b w mix small is = omega (arith, is, small)
 
--- a channel's mix by its bytes has the top byte of that by its 16 bits
+-- the interpolation of the bytes gives the same decoded byte as that of the widened channels
 pub top_of_mix : (flavour : Flavour) (c a b w mix : ℕ) → w ≤ 64 → mix ≡ a * (64 - w) + b * w
     → top_of flavour c mix ≡ mixed (widened flavour c a) (widened flavour c b) w / 256
 top_of_mix Linear c a b w mix small is = repeated a b w mix is

@@ -1,4 +1,4 @@
--- The weights of a place before they are rounded, from the values of all weights of the block.
+-- The weights of a place in sixteenths, computed from the values of all weights of the block.
 use Rattle.std.proofs.Common.{◌≡◌, ℕ, zero, suc, ◌+◌, ◌*◌, ◌<◌, ◌≤◌, IsTrue, List, [], ◌∷◌, length, get_or, map, refl, ap, sym, ◌∙◌, arith}
 use Rattle.std.specs.List.{All}
 use Rattle.std.proofs.lemmas.List.{get_or-map}
@@ -22,7 +22,7 @@ infill-is w h n m x y points = refl
 
 module _ (w h : ℕ) (coded : CodedFields) (mode : Mode) (all : length coded.weights.items
     ≡ mode.across * mode.down * mode.planes) where
-  -- the value of a point of a plane
+  -- the value of a grid point in one plane
   point-is : (plane q : ℕ) → plane < mode.planes → q < mode.across * mode.down
       → get_or (map (weight_value mode.level) coded.weights.items) (q * mode.planes + plane) 0
       ≡ get_or (plane_weights coded mode plane) q 0
@@ -51,7 +51,7 @@ module _ (w h : ℕ) (coded : CodedFields) (mode : Mode) (all : length coded.wei
       (λ k d below. ap (λ value. value * (get_or (factors w h mode.across mode.down x y) k d).1)
       (point-is plane _ is (inside k d below)))
 
-  -- the numerators of both planes, as the code has them
+  -- the weights of a texel in both planes, in the form of the code
   pub pair-is : (plane x y : ℕ) (values : List ℕ) → 1 ≤ mode.planes → mode.planes ≤ 2
       → plane < mode.planes
       → values ≡ map (weight_value mode.level) coded.weights.items
@@ -68,7 +68,7 @@ module _ (w h : ℕ) (coded : CodedFields) (mode : Mode) (all : length coded.wei
       rw (values_are, last) (plane_sum-is 1 x y is inside)
   pair-is (suc (suc plane)) x y values some few is values_are inside = absurd (omega arith)
 
--- the points around a texel are in the grid
+-- the indices of the points around a texel are within the grid
 pub in_grid : (w h n m x y : ℕ) → IsTrue (is_footprint w h) → 2 ≤ n → n ≤ w → 2 ≤ m → m ≤ h → x < w
     → y < h → All (λ point. point.0 < n * m) (factors w h n m x y)
 in_grid w h n m x y sides some_columns columns some_rows rows across down =

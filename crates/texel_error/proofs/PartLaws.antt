@@ -1,11 +1,11 @@
--- The colour integers of a part are among those of the block.
+-- The colour integers of a partition are among those of the block.
 use Rattle.std.proofs.Common.{◌≡◌, ℕ, zero, suc, ◌+◌, ◌<◌, ◌≤◌, List, length, get_or, arith, inl, inr}
 use Rattle.std.proofs.lemmas.Bool.{cases_lt}
 use Rattle.std.proofs.lemmas.List.Sums.{sum_by_more}
 use Rattle.astc_model.specs.Shapes.{colour_count}
 use Rattle.astc_model.specs.Endpoints.{endpoint_integers}
 
--- the colours begin no earlier for a later part
+-- the colour integers of a later partition begin no earlier
 pub count_below : (cems : List ℕ) (r s : ℕ) → r ≤ s → s ≤ length cems
     → colour_count r cems ≤ colour_count s cems
 count_below cems r zero below within = let none : r ≡ 0 = omega arith in rw none (omega arith)

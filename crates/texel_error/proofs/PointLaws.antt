@@ -1,4 +1,5 @@
--- The texel shown at a place, from the values of the points that its weights are made of.
+-- The decoded texel of a place, computed from the values of the grid points on which its weights
+-- depend.
 use Rattle.std.proofs.Common.{◌≡◌, ℕ, zero, suc, ◌+◌, ◌*◌, ◌/◌, ◌%◌, ◌<◌, ◌≤◌, ◌==◌, Bool, true, false, cond, List, [], ◌∷◌, get_or, refl, ap, ◌∙◌, arith}
 use Rattle.astc_model.specs.Places.{channel}
 use Rattle.astc_model.specs.Errors.{texel}
@@ -28,7 +29,7 @@ module _ (w h : ℕ) (flavour : Flavour) (outline : Outline) (can : CanDraw w h 
     own_ends : Ends
     own_ends = colours_of_place w h coded is.level p
 
-    -- the weights of both planes in sixteenths
+    -- the weights of place p in both planes, in sixteenths
     own_numerators : List ℕ
     own_numerators = share_sum (values_of outline.first) (origins_at outline p)
         ∷ share_sum (values_of outline.second) (origins_at outline p) ∷ []
@@ -40,7 +41,7 @@ module _ (w h : ℕ) (flavour : Flavour) (outline : Outline) (can : CanDraw w h 
     are_numerators (suc zero) there = is.second (omega (arith, there)) p below
     are_numerators (suc (suc q)) there = absurd (omega (arith, there, is.shaped.two_planes))
 
-    -- the weight of a channel
+    -- the weight of a channel, rounded
     own_weight : (c : ℕ) → weight_in outline (group_at outline (p / 4)) (p % 4) c
         ≡ rounded (get_or own_numerators (plane_at outline.plane c) 0)
     unfolding own_numerators

@@ -1,4 +1,4 @@
--- The places that the weights of four texels are made of, as they are or in two runs.
+-- The places on which the weights of four texels depend, stored directly or as offsets in two runs.
 use Rattle.std.proofs.Common.{◌≡◌, ℕ, ◌+◌, ◌*◌, ◌<◌, ◌≤◌, true, false, List, get_or, length, refl, ap, ◌∙◌, arith, inl, inr}
 use Rattle.std.proofs.lemmas.Bool.{cases_lt}
 use Rattle.std.specs.Prelude.{slice_index}
@@ -31,7 +31,7 @@ module _ (n : ℕ) (own : GroupOrigins) (places factors : List ℕ) (are : AreFa
     total = λ t l. rw factors_are (are.total t l);
   }
 
-  -- places as they are
+  -- places that are stored directly
   pub far_group : own.near ≡ false → own.first ≡ places
       → ((k : ℕ) → k < 16 → get_or places k 0 < n) → IsOriginGroup n own
   far_group near_is first_is within = record {
@@ -46,7 +46,7 @@ module _ (n : ℕ) (own : GroupOrigins) (places factors : List ℕ) (are : AreFa
       → group_pairs own t ≡ pairs_of (slice_index places) factors t
   far_pairs near_is first_is t = rw (near_is, first_is, factors_are) refl
 
-  -- places in two runs
+  -- places that are stored as offsets in two runs
   module _ (near_is : own.near ≡ true) (first_start : own.starts.0 ≤ 144)
       (second_start : own.starts.1 ≤ 144)
       (each : (k : ℕ) → k < 16 → IsLaneKept n own places k) where

@@ -1,4 +1,4 @@
--- The texels of a source as bytes for lanes.
+-- The texels of a source in arrays with four bytes for each place.
 use Rattle.std.proofs.Common.{◌≡◌, ◌≢◌, ℕ, zero, suc, ◌+◌, ◌*◌, ◌/◌, ◌%◌, ◌<◌, ◌≤◌, List, [], ◌∷◌, length, length-set, replicate, get_or, get_or-set_other, get_or-set_same, set, Option, None, Some, refl, ap, sym, subst, ◌∙◌, arith, inl, inr}
 use Rattle.std.specs.List.{All}
 use Rattle.std.proofs.lemmas.Bool.{cases_lt}
@@ -12,14 +12,14 @@ use Rattle.texel_error.specs.Colours.{with_texel}
 use Rattle.texel_error.specs.Orders.{AreGroups, AreSourceLanes, AreTexelLanes, IsTexelLane, lane_error, lane_sum}
 use Rattle.texel_error.specs.declared.order.SourceLanes.{SourceLanes}
 
--- ---- a texel put at a place
+-- ---- a texel that is stored at a place
 
 module _ (lanes : List ℕ) (p : ℕ) (texel : Texel) where
   pub all_lanes : length (with_texel lanes p texel) ≡ length lanes
   all_lanes = length-set _ (4 * p + 3) _ ∙ length-set _ (4 * p + 2) _ ∙ length-set _ (4 * p + 1) _
       ∙ length-set lanes (4 * p) _
 
-  -- other lanes
+  -- the lanes of other places are unchanged
   pub kept_lane : (k : ℕ) → k ≢ 4 * p → k ≢ 4 * p + 1 → k ≢ 4 * p + 2 → k ≢ 4 * p + 3
       → get_or (with_texel lanes p texel) k 0 ≡ get_or lanes k 0
   kept_lane k first second third fourth = get_or-set_other _ (4 * p + 3) k _ 0 fourth
@@ -84,7 +84,7 @@ module _ (lanes : List ℕ) (p : ℕ) (texel : Texel) where
 
 -- ---- the texels of a source
 
--- the same lanes
+-- the property of a place depends on its four lanes only
 same_lane : (weights : Weighting) (texels gains new others : List ℕ) (q : ℕ)
     → ((c : ℕ) → c < 4 → get_or new (4 * q + c) 0 ≡ get_or texels (4 * q + c) 0)
     → ((c : ℕ) → c < 4 → get_or others (4 * q + c) 0 ≡ get_or gains (4 * q + c) 0)
@@ -151,7 +151,7 @@ lanes_none places weights texels gains all_texels all_gains none = record {
   rest = λ k most. none k;
 }
 
--- lanes of nothing
+-- an entry of a list of zeros is 0
 pub zeros : (n k : ℕ) → ◌≡◌ {A = ℕ} (get_or (replicate n 0) k 0) 0
 zeros zero k = refl
 zeros (suc n) zero = refl

@@ -1,4 +1,4 @@
--- A coded block's texels from its parts, ends and weights.
+-- The texels of a coded block, from its partitions, endpoints and weights.
 use Rattle.std.proofs.Common.{◌≡◌, ◌/◌, ◌%◌, ◌^◌, ℕ, ◌+◌, ◌*◌, ◌<◌, ◌≤◌, ◌==◌, Bool, true, false, IsTrue, cond, List, [], ◌∷◌, length, get_or, refl, ap, sym, ◌∙◌, arith, inl, inr}
 use Rattle.std.specs.Prelude.{nat_lt, map, replicate}
 use Rattle.std.specs.List.{All, list_all}
@@ -27,14 +27,14 @@ use Rattle.texel_error.specs.declared.decoded.Decoded.{Decoded}
 use Rattle.texel_error.specs.Decoding.{shown_of, shown_at, ends_at, numerators_at, IsDecoded, Shows}
 use Rattle.texel_error.proofs.NumeratorLaws.{infill-is}
 
--- ---- blocks at fault
+-- ---- illegal encodings
 
 pub MAGENTA-is : MAGENTA ≡ error_colour
 MAGENTA-is = refl
 
--- ---- constant blocks
+-- ---- void-extent blocks
 
--- a value of 8 bits, repeated and mixed with itself, is its own top byte
+-- the interpolation of a byte with itself, widened by repetition, has this byte as high byte
 same_mixed : (value : ℕ) → value < 256 → mixed (257 * value) (257 * value) 0 / 256 ≡ value
 same_mixed value small = omega arith
 
@@ -47,7 +47,7 @@ four (a ∷ b ∷ c ∷ []) long = absurd (omega arith)
 four (a ∷ b ∷ c ∷ d ∷ []) long = refl
 four (a ∷ b ∷ c ∷ d ∷ e ∷ xs) long = absurd (omega arith)
 
--- equal ends show themselves
+-- two equal endpoints decode to themselves
 pub same_ends : (colour : List ℕ) → length colour ≡ 4 → All (λ value. value < 256) colour
     → shown_texel Linear (colour, colour) (λ c. 0) ≡ colour
 same_ends colour long small =
@@ -59,7 +59,7 @@ same_ends colour long small =
     )
     (four colour long)
 
--- the top bytes of the values of a constant block
+-- the high bytes of the values of a void-extent block
 top_bytes_small : (values : List ℕ) → IsTrue (list_all (λ value. nat_lt value (2 ^ 16)) values)
     → All (λ value. value < 256) (map (λ value. value / 256) values)
 top_bytes_small values all =
@@ -96,7 +96,7 @@ constant_shows w h flavour constant decoded few legal flavour_is plane_is parts_
 
 -- ---- coded blocks
 
--- the weight of a plane in a texel
+-- the weight of the texel (x, y) in one plane
 abbrev pub weight_of : (w h : ℕ) (coded : CodedFields) (mode : Mode) (x y plane : ℕ) → ℕ
 weight_of w h coded mode x y plane = infill w h mode.across mode.down x y
     (plane_weights coded mode plane)
@@ -106,7 +106,7 @@ pub shown_same : (flavour : Flavour) (ends other : Ends) (f g : ℕ → ℕ) →
     → shown_texel flavour ends f ≡ shown_texel flavour other g
 shown_same flavour ends other f g e a b c d = rw (e, a, b, c, d) refl
 
--- the plane of a channel is one of the block's
+-- the plane of a channel is a plane of the block
 pub plane_of-lt : (plane c planes : ℕ) → 1 ≤ planes → (planes ≡ 1 → plane ≡ 0)
     → cond (plane == c + 1) 1 0 < planes
 plane_of-lt plane c planes some one =
@@ -125,7 +125,7 @@ plane_of-lt plane c planes some one =
 
 module _ (w h : ℕ) (flavour : Flavour) (coded : CodedFields) (mode : Mode) (level : Level)
     (is : IsShaped w h coded mode level) where
-  -- a texel from the ends of its part and the weights of its planes
+  -- the texel from the endpoints of its partition and the weights of its planes
   pub coded_texel-is : (x y : ℕ) → coded_texel w h flavour coded x y
       ≡ shown_texel flavour (part_colours coded level (part_of w h coded.parts coded.seed x y))
       (λ c. weight_of w h coded mode x y (plane_of coded c))
@@ -138,7 +138,7 @@ module _ (w h : ℕ) (flavour : Flavour) (coded : CodedFields) (mode : Mode) (le
   pub planes_are : (c : ℕ) → plane_of coded c < mode.planes
   planes_are c = plane_of-lt coded.plane c mode.planes is.some_plane is.legal.plane_named.one
 
-  -- what is shown at these ends and numerators
+  -- the texel between these endpoints with these weights in sixteenths
   pub shown_of-is : (x y plane : ℕ) (ends : Ends) (numerators : List ℕ) → plane ≡ coded.plane → ends
       ≡ part_colours coded level (part_of w h coded.parts coded.seed x y)
       → ((q : ℕ) → q < mode.planes → get_or numerators q 0 ≡ numerator w h mode.across mode.down x y

@@ -1,4 +1,4 @@
--- The value of each lane after operations on vectors.
+-- The lanes of the results of vector operations.
 use Rattle.std.proofs.Common.{◌≡◌, ℕ, zero, suc, ◌+◌, ◌-◌, ◌*◌, ◌/◌, ◌%◌, ◌^◌, ◌<◌, ◌≤◌, List, [], ◌∷◌, Bool, true, false, cond, ◌&&◌, ◌||◌, ◌==◌, ◌⊎◌, inl, inr, ltb, leb, length, get_or, map, replicate, refl, sym, ap, subst, ◌∙◌, arith, w8, w16, bit_and, bit_or, Fits}
 use Rattle.std.specs.Prelude.{sum_by}
 use Rattle.std.specs.Simd.Lanes.{zip2, sel_l, top, Each1, chunk, pair_sums, products, dots, fold_l}
@@ -11,7 +11,7 @@ use Rattle.std.proofs.lemmas.Simd.{length-zip2, get_or-zip2, get_or-replicate, l
 use Rattle.std.specs.Int.Bits.{or_zero_l, or_zero_r}
 use Rattle.texel_lanes.specs.Lanes.{HasLanes, eight_sum, far_apart, four_products, pairs_of, place_in, squared_apart}
 
--- an operator on two vectors
+-- the lanes of an operator on two vectors
 pub zipped : (n : ℕ) (f : ℕ → ℕ → ℕ) (a b : List ℕ) → length a ≡ n → length b ≡ n
     → HasLanes n (zip2 f a b) (λ k. f (get_or a k 0) (get_or b k 0))
 zipped n f a b p q = record {
@@ -19,7 +19,7 @@ zipped n f a b p q = record {
   each = λ k l. get_or-zip2 f a b k 0 0 0 (omega arith) (omega arith);
 }
 
--- an operator on a vector and a splat
+-- the lanes of an operator on a vector and a repeated number
 pub zipped_splat : (n : ℕ) (f : ℕ → ℕ → ℕ) (a : List ℕ) (x : ℕ) → length a ≡ n
     → HasLanes n (zip2 f a (replicate n x)) (λ k. f (get_or a k 0) x)
 zipped_splat n f a x p =
@@ -29,7 +29,8 @@ zipped_splat n f a x p =
       each = λ k l. h.each k l ∙ ap (f (get_or a k 0)) (get_or-replicate n k x 0 l);
     }
 
--- a choice of two vectors by the comparison of a splat with a third
+-- the lanes of a selection between two vectors by the comparison of a repeated number with a third
+-- vector
 pub chosen_from : (n : ℕ) (t : ℕ → ℕ → Bool) (x : ℕ) (a xs ys : List ℕ) → length a ≡ n
     → length xs ≡ n → length ys ≡ n
     → HasLanes n (sel_l (zip2 t (replicate n x) a) xs ys)
@@ -56,14 +57,14 @@ low_bits v long =
 
 module _ (js : List ℕ) (f : ℕ → ℕ) (h : HasLanes 16 js f)
     (small : (k : ℕ) → k < 16 → f k < 16) where
-  -- positions below 16 may be looked up
+  -- indices below 16 are valid for a look-up
   pub may_look_up : SwzOk w8 16 16 0 js
   may_look_up =
       let long = h.long in
       SwzOk-from_below w8 16 1 16 0 js refl (omega arith) (Each1-from_get_or (λ j. j < 16) js 0
       (λ i l. omega (arith, h.each i (omega arith), small i (omega arith))))
 
-  -- what the look-up gives
+  -- the lanes of a look-up
   pub looked_up : (table : List ℕ) → HasLanes 16 (swz_l w8 16 table 0 js)
       (λ k. get_or table (f k) 0)
   looked_up table =
@@ -80,7 +81,7 @@ both : (a b : Bool) → T a → T b → T (a && b)
 both true b p q = q
 both false b p q = elim p [ ]
 
--- numbers that are below a bound one by one are so by test
+-- a list whose numbers are all below a bound passes the test of this
 pub below_by_test : (bound : ℕ) (xs : List ℕ)
     → ((k : ℕ) → k < length xs → get_or xs k 0 < bound) → T (all_below bound xs)
 below_by_test bound [] each = tt
@@ -91,7 +92,7 @@ below_by_test bound (x ∷ xs) each = both (ltb x bound) (all_below bound xs)
 sums_same : (a b c d : ℕ) → a ≡ c → b ≡ d → a + b ≡ c + d
 sums_same a b c d p q = omega arith
 
--- the sum of each two neighbours
+-- the sums of neighbouring lanes
 pub pair_sum_at : (xs : List ℕ) (t : ℕ) → 2 * t + 1 < length xs
     → get_or (pair_sums xs) t 0 ≡ get_or xs (2 * t) 0 + get_or xs (2 * t + 1) 0
 pair_sum_at [] t l = absurd (omega arith)
@@ -110,7 +111,7 @@ pair_count [] (suc n) l = absurd (omega arith)
 pair_count (x ∷ []) (suc n) l = absurd (omega arith)
 pair_count (x ∷ y ∷ xs) (suc n) l = ap suc (pair_count xs n (omega arith))
 
--- sums of four products
+-- the lanes of sums of four products
 pub dots_are : (xs ys : List ℕ) → length xs ≡ 16 → length ys ≡ 16
     → HasLanes 4 (dots xs ys) (four_products xs ys)
 dots_are xs ys p q =
@@ -136,9 +137,9 @@ dots_are xs ys p q =
           ∙ (rw one (rw three (rw four refl)));
     }
 
--- ---- lanes from the known lanes of the vectors that they are made of
+-- ---- lanes of results from the lanes of their operands
 
--- the lanes as they are
+-- the lanes of a vector
 pub own : (n : ℕ) (v : List ℕ) → length v ≡ n → HasLanes n v (λ k. get_or v k 0)
 own n v long = record { long = long; each = λ k l. refl }
 
@@ -160,7 +161,7 @@ made n f a b g h p q = record {
       ∙ ap (λ x. f x (get_or b k 0)) (p.each k l) ∙ ap (f (g k)) (q.each k l);
 }
 
--- the operators on lanes of sixteen bits
+-- the sum of two lanes of 16 bits, which wraps
 abbrev pub wrapped_sum : ℕ → ℕ → ℕ
 wrapped_sum a b = (a + b) % 65536
 
@@ -221,7 +222,7 @@ one_of_two table s o a b (inr (p, q)) =
     rw (le-leb 128 a p, lt-leb 128 b (omega arith), le-ltb a 16 (omega arith))
     (nothing_or (get_or table (o + b) 0))
 
--- ---- four weights, each four times
+-- ---- four weights, each repeated four times
 
 abbrev pub spread_list : List ℕ → ℕ → List ℕ
 spread_list xs a = get_or xs a 0 ∷ get_or xs a 0 ∷ get_or xs a 0 ∷ get_or xs a 0
@@ -275,11 +276,11 @@ sum_of_eight (a ∷ b ∷ c ∷ d ∷ e ∷ g ∷ h ∷ i ∷ j ∷ rest) f lane
 pub either_same : (a b x y : ℕ) → a ≡ x → b ≡ y → bit_or a b ≡ bit_or x y
 either_same a b x y p q = ap (λ a. bit_or a b) p ∙ ap (bit_or x) q
 
--- the product of lanes of 32 bits
+-- the product of two lanes of 32 bits, which wraps
 abbrev pub product_32 : ℕ → ℕ → ℕ
 product_32 a b = a * b % 4294967296
 
--- ---- distances between lanes of sixteen bits
+-- ---- absolute differences of 16-bit lanes
 
 pub compared : (n : ℕ) (t : ℕ → ℕ → Bool) (a b xs ys : List ℕ) → length a ≡ n → length b ≡ n
     → length xs ≡ n → length ys ≡ n → HasLanes n (sel_l (zip2 t a b) xs ys)
@@ -390,7 +391,7 @@ pub eight_of_both : (v : List ℕ) (f g : ℕ → ℕ) → HasLanes 8 v (λ k. f
     → eight_sum (λ k. get_or v k 0) ≡ eight_sum f + eight_sum g
 eight_of_both v f g h = eight_same (λ k. get_or v k 0) (λ k. f k + g k) h.each ∙ omega arith
 
--- ---- the weight of a texel, from the places that it is made of
+-- ---- the weight of a texel, from the places on which it depends
 
 pub four_shares : (lanes factors values : List ℕ) (place : ℕ → ℕ) (t : ℕ) → t < 4
     → HasLanes 16 lanes (λ k. get_or values (place k) 0)
@@ -405,7 +406,7 @@ four_shares lanes factors values place t l h =
 
 -- ---- lanes by channel
 
--- the channels of two texels
+-- the channel of each lane for two texels
 abbrev pub channels : List ℕ
 channels = 0 ∷ 1 ∷ 2 ∷ 3 ∷ 0 ∷ 1 ∷ 2 ∷ 3 ∷ []
 

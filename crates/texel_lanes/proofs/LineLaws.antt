@@ -1,4 +1,4 @@
--- How far texels are along lines, lane by lane, and stores of sixteen bytes.
+-- The lanes of scalar products of texels with lines, and stores of sixteen bytes.
 use Rattle.std.proofs.Common.{◌≡◌, ℕ, ◌+◌, ◌-◌, ◌*◌, ◌%◌, ◌<◌, ◌≤◌, List, Bool, true, false, cond, ltb, length, get_or, map, refl, sym, subst, ◌∙◌, arith, w8, Fits}
 use Rattle.std.specs.Simd.Lanes.{zip2, sel_l, top, Each1}
 use Rattle.std.proofs.lemmas.Bool.{ltb-true, ltb-false}
@@ -7,7 +7,7 @@ use Rattle.std.proofs.lemmas.Simd.{tops_compared, Each1-get_or}
 use Rattle.texel_lanes.specs.Lanes.{HasLanes, along_lane, far_apart, four_products}
 use Rattle.texel_lanes.proofs.LaneLaws.{compared, made, same_lanes}
 
--- ---- distances between bytes
+-- ---- absolute differences of bytes
 
 abbrev pub wrapped_byte_difference : ℕ → ℕ → ℕ
 wrapped_byte_difference a b = (a + (256 - b)) % 256

@@ -1,5 +1,5 @@
--- Laws of the weight infill: no factor belongs to a point outside the grid, the places are in the
--- grid, and the factors of a texel add up to 16.
+-- Laws of the weight infill: points outside the grid have the factor 0, the indices of the four
+-- points are within the grid, and the factors of a texel have the sum 16.
 use Rattle.std.proofs.Common.{◌≡◌, ◌≢◌, ℕ, ◌+◌, ◌-◌, ◌*◌, ◌/◌, ◌%◌, ◌<◌, ◌≤◌, ◌==◌, Bool, true, false, IsTrue, if◌then◌else◌, nat_le, List, length, slice_index, refl, inl, inr, arith}
 use Rattle.std.specs.List.{All, sum_by}
 use Rattle.std.proofs.lemmas.Bool.{cases_lt, leb-true, eqb-false}
@@ -11,7 +11,7 @@ use Rattle.astc_model.specs.Infill.{Corner, IsZeroOutside, corners, corners_at, 
 use Rattle.astc_model.specs.Sums.{all_below}
 use Rattle.astc_model.proofs.SumLaws.{every_below}
 
--- whether a texel is at the last point of its side or before it
+-- whether the position of a texel is at most that of the last grid point of the side
 abbrev within_side : ℕ → ℕ → ℕ → Bool
 unfolding grid_position
 within_side side points texel = nat_le (grid_position side points texel) (16 * (points - 1))
@@ -23,7 +23,8 @@ within_all_sides : IsTrue (all_below within_sides 13)
 unfolding grid_position
 within_all_sides = refl
 
--- a texel is at the last point of its side or before it, on sides up to 12
+-- the position of a texel is at most that of the last grid point of the side, for sides of at most
+-- 12
 pub grid_position-le : (side points texel : ℕ) → side ≤ 12 → points ≤ side → texel < side
     → grid_position side points texel ≤ 16 * (points - 1)
 unfolding grid_position
@@ -36,13 +37,13 @@ grid_position-le side points texel short few inside =
     leb-true (grid_position side points texel) (16 * (points - 1))
     (every_below (within_side side points) side texel of_points inside)
 
--- the factor of the farthest point is at most each of the sixteenths, and not far below their sum
+-- the factor w11 is at most fs and at most ft, and at least their sum minus 16
 pub record IsLastFactor (fs ft : ℕ) : Type 0 where
   pub across : last_factor fs ft ≤ fs
   pub down : last_factor fs ft ≤ ft
   pub both : fs + ft ≤ 16 + last_factor fs ft
 
--- what holds of all pairs of sixteenths by a test
+-- an inequality that a test finds true for all pairs of sixteenths
 of_sixteenths : (low high : ℕ → ℕ → ℕ) (fs ft : ℕ)
     → IsTrue (all_below (λ j. all_below (λ k. nat_le (low j k) (high j k)) 16) 16) → fs < 16
     → ft < 16 → low fs ft ≤ high fs ft
@@ -58,7 +59,7 @@ last_factor-is fs ft across down = record {
   both = of_sixteenths (λ j k. j + k) (λ j k. 16 + last_factor j k) fs ft refl across down;
 }
 
--- if the texel is at the last column or row, the points beyond it have no factor
+-- if the texel is at the last column or row of points, the points after it have the factor 0
 corners_at-outside : (n m js jt fs ft : ℕ) → js < n → jt < m → (n ≤ js + 1 → fs ≡ 0)
     → (m ≤ jt + 1 → ft ≡ 0) → All (IsZeroOutside n m) (corners_at js jt fs ft)
 corners_at-outside n m js jt fs ft column row last_column last_row =
@@ -91,7 +92,7 @@ corners_at-outside n m js jt fs ft column row last_column last_row =
       ),
     )
 
--- a grid that fits its block, and a texel of the block
+-- the ranges of a grid that fits its block, and of a texel of the block
 pub record IsTexel (w h n m s t : ℕ) : Type 0 where
   pub width : w ≤ 12
   pub height : h ≤ 12
@@ -102,7 +103,7 @@ pub record IsTexel (w h n m s t : ℕ) : Type 0 where
   pub across : s < w
   pub down : t < h
 
--- each of the four points that lies outside the grid has the factor 0
+-- of the four points, those outside the grid have the factor 0
 pub corners-outside : (w h n m s t : ℕ) → IsTexel w h n m s t
     → All (IsZeroOutside n m) (corners w h n m s t)
 unfolding corners
@@ -114,7 +115,7 @@ corners-outside w h n m s t texel =
     corners_at-outside n m (gs / 16) (gt / 16) (gs % 16) (gt % 16) (omega arith) (omega arith)
     (λ last. omega arith) (λ last. omega arith)
 
--- the place of a point is in the grid
+-- the index of a point is within the grid
 placed-inside : (n m : ℕ) (corner : Corner) (b : Bool) → (corner.factor == 0) ≡ b → 0 < n → 0 < m
     → IsZeroOutside n m corner → (if b then 0 else corner.row * n + corner.column) < n * m
 placed-inside n m corner true none columns rows outside =
@@ -139,7 +140,7 @@ factors-inside w h n m s t texel =
     (λ k d lt. placed-inside n m _ _ refl (omega arith) (omega arith)
     (corners-outside w h n m s t texel k d lt))
 
--- the factors of a texel add up to 16
+-- the factors of a texel have the sum 16
 pub factors-total : (w h n m s t : ℕ) → sum_by (λ point. point.1) (factors w h n m s t) ≡ 16
 unfolding factors corners
 factors-total w h n m s t =
@@ -157,7 +158,7 @@ factors-small w h n m s t =
     All-from_recursion (λ point. point.1 ≤ 16) (factors w h n m s t)
     (omega (arith, last.across), (omega arith, (omega arith, (omega (arith, last.across), tt))))
 
--- a read of points of at most 64, and of nothing
+-- an entry of a list of weights, or 0 past its end, is at most 64
 index_le : (points : List ℕ) (place : ℕ) → All (λ weight. weight ≤ 64) points
     → slice_index points place ≤ 64
 index_le points place small =
@@ -167,7 +168,7 @@ index_le points place small =
           omega arith
     ]
 
--- points of at most 64 give weights of at most 64
+-- points of at most 64 give a weight of at most 64
 pub infill-le : (w h n m s t : ℕ) (points : List ℕ) → All (λ weight. weight ≤ 64) points
     → infill w h n m s t points ≤ 64
 unfolding infill factors corners

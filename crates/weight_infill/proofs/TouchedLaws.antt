@@ -1,4 +1,5 @@
--- The factor of a point in a texel by columns and rows, and the texels that it touches.
+-- The factor of a grid point in a texel, computed by columns and rows, and the texels whose weight
+-- depends on a point.
 use Rattle.std.proofs.Common.{◌≡◌, ℕ, zero, suc, ◌+◌, ◌-◌, ◌*◌, ◌/◌, ◌%◌, ◌<◌, ◌≤◌, ◌==◌, nat_lt, ◌&&◌, Bool, true, false, cond, List, [], ◌∷◌, ◌++◌, get_or, map, refl, ap, sym, ◌∙◌, add-one, append_assoc, append-nil, eq-eqb, mod-lt, arith, inl, inr}
 use Rattle.std.specs.List.{All}
 use Rattle.std.proofs.lemmas.Bool.{cases_eq, cases_lt, ne_eqb, eqb-true}
@@ -12,20 +13,20 @@ use Rattle.weight_infill.specs.declared.touching.Share.TheVariants.{Apart, Near,
 use Rattle.weight_infill.specs.Touched.{factor_among, factor_of, is_touched, touched_below, share_of, factor_between, row_touched}
 use Rattle.weight_infill.proofs.InfillLaws.{IsTexel, corners-outside}
 
--- ---- the factor of a point
+-- ---- the factor of a grid point
 
 nothing : (b : Bool) → ◌≡◌ {A = ℕ} (cond b 0 0) 0
 nothing true = refl
 nothing false = refl
 
--- a place in the grid determines its column and row
+-- the index of a point determines its column and row
 same_place : (n i j c r : ℕ) → i < n → c < n → r * n + c ≡ j * n + i → (c ≡ i) × (r ≡ j)
 same_place n i j c r i_in c_in same = (
   sym (mod-mul-add r n c c_in) ∙ ap (λ k. k % n) same ∙ mod-mul-add j n i i_in,
   sym (div-mul-add r n c c_in) ∙ ap (λ k. k / n) same ∙ div-mul-add j n i i_in,
 )
 
--- a corner adds its factor if it is the point in column i and row j
+-- one of the four points adds its factor if it is the point in column i and row j
 term : (n i j c r f : ℕ) → i < n → (n ≤ c → f ≡ 0)
     → cond (cond (f == 0) 0 (r * n + c) == j * n + i) f 0 ≡ cond (c == i && r == j) f 0
 term n i j c r zero i_in out = nothing (cond (0 == 0) 0 (r * n + c) == j * n + i)
@@ -68,7 +69,7 @@ term n i j c r (suc f) i_in out =
           ) refl
         ]
 
--- the four corners
+-- the factor of the point in column i and row j is the sum over the four points
 among : (n m i j js jt fs ft : ℕ) → i < n → All (IsZeroOutside n m) (corners_at js jt fs ft)
     → factor_among (j * n + i) (map (placed n) (corners_at js jt fs ft))
     ≡ cond (js == i && jt == j) (16 + last_factor fs ft - fs - ft) 0 + cond (js + 1 == i && jt == j)
@@ -89,7 +90,7 @@ among n m i j js jt fs ft i_in outside =
           (outside 3 d (omega arith)).beyond_columns,
     )
 
--- at most one of them is the point
+-- at most one of the four points is the point in column i and row j
 between : (a b c d : Bool) (fs ft : ℕ) → (a ≡ true → b ≡ false) → (c ≡ true → d ≡ false)
     → cond (a && c) (16 + last_factor fs ft - fs - ft) 0 + cond (b && c)
     (fs - last_factor fs ft) 0 + cond (a && d) (ft - last_factor fs ft) 0 + cond (b && d)
@@ -133,7 +134,7 @@ factor-is w h n m point x y texel =
     (gt / 16 + 1 == point / n) (gs % 16) (gt % 16)
     (exclusive (gs / 16) (point % n)) (exclusive (gt / 16) (point / n))
 
--- ---- the texels that a point touches
+-- ---- the texels that depend on a grid point
 
 apart : (share : Share) → factor_between share Apart ≡ 0
 apart Apart = refl
@@ -154,7 +155,7 @@ pub row_touched-none : (across : List Share) (down : Share) (y : ℕ) → row_to
 unfolding row_touched
 row_touched-none across down y = refl
 
--- a row that is apart has none
+-- a row of texels that is apart from the point's row has none
 pub row_touched-apart : (across : List Share) (y k : ℕ) → row_touched across Apart y k ≡ []
 row_touched-apart across y zero = row_touched-none across Apart y
 row_touched-apart across y (suc k) =
@@ -164,7 +165,7 @@ row_touched-apart across y (suc k) =
     in
     rw (add-one k, apart (get_or across k Apart), row_touched-apart across y k) at more
 
--- one column more, with a factor or without
+-- a step of the loop over columns, for a texel that depends on the point and one that does not
 pub column_taken : (across : List Share) (down : Share) (y k : ℕ) (front items : List (ℕ × ℕ))
     → items ≡ front ++ row_touched across down y k
     → nat_lt 0 (factor_between (get_or across k Apart) down) ≡ true → items ++ (k, y) ∷ []
@@ -196,7 +197,7 @@ one_or_none : (P : ℕ × ℕ → Type 0) (b : Bool) (texel : ℕ × ℕ) → P 
 one_or_none P true texel holds = All-from_recursion P (texel ∷ []) (holds, tt)
 one_or_none P false texel holds = All-from_recursion P [] tt
 
--- they are texels of the block
+-- the texels are within the block
 pub touched_inside : (w h n m point k : ℕ) → 0 < w → k ≤ w * h
     → All (λ texel. (texel.0 < w) × (texel.1 < h)) (touched_below w h n m point k)
 touched_inside w h n m point zero some within = rw (touched_below-none w h n m point)
@@ -216,7 +217,7 @@ touched_inside w h n m point (suc k) some within =
     (one_or_none (λ texel. (texel.0 < w) × (texel.1 < h)) (is_touched w h n m point (k % w, k / w))
     (k % w, k / w) (mod-lt k some, row)))
 
--- a grid that fits its block
+-- the ranges of a grid that fits its block
 pub record IsGrid (w h n m : ℕ) : Type 0 where
   pub width : w ≤ 12
   pub height : h ≤ 12
@@ -229,7 +230,7 @@ module _ (w h n m point y : ℕ) (across : List Share) (down : Share) (grid : Is
     (y_in : y < h)
     (across_are : (x : ℕ) → x < w → get_or across x Apart ≡ share_of w n (point % n) x)
     (down_is : down ≡ share_of h m (point / n) y) where
-  -- a place of the row
+  -- the test of a texel of the row by columns and rows
   test-is : (k : ℕ) → k < w → is_touched w h n m point (k, y)
       ≡ nat_lt 0 (factor_between (get_or across k Apart) down)
   test-is k k_in =

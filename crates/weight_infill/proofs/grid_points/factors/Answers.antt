@@ -5,7 +5,7 @@ use Rattle.weight_infill.proofs.InfillLaws.{IsTexel, corners-outside, factors-in
 use Rattle.weight_infill.proofs.grid_points.factors.Given.{Over}
 use Rattle.weight_infill.proofs.grid_points.factors.Goals as goal
 
--- what the call requires, as the laws have it
+-- the requirements of the call in the form of the laws
 texel : (g : Over) (c : goal.After-points_at g)
     → IsTexel g.row.W g.row.H c.args.n c.args.m c.args.s c.args.t
 texel g c =
@@ -21,7 +21,8 @@ texel g c =
       down = c.requires.down;
     }
 
--- the points from the two positions are the definition's, whatever names the numbers go by
+-- the points from the two positions are those of the definition, for any variables equal to the
+-- arguments
 same_points : (w h n m s t n' m' s' t' x y : ℕ) → n' ≡ n → m' ≡ m → s' ≡ s → t' ≡ t → x
     ≡ grid_position w n' s' → y ≡ grid_position h m' t'
     → map (placed n') (corners_at (x / 16) (y / 16) (x % 16) (y % 16)) ≡ factors w h n m s t

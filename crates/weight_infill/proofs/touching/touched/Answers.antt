@@ -46,7 +46,7 @@ loop-y-preserved g c =
       few = omega (arith, c.push_row.ensures.few, c.loop-y.invariant.few);
     })
 
--- all rows are done
+-- the texels after the loop over all rows
 rows_done : (g : Over) (c : goal.After-loop-y g) → c.loop-y.touched.items
     ≡ touched_below g.row.W g.row.H c.args.n c.args.m c.args.point (g.row.W * g.row.H)
 rows_done g c =

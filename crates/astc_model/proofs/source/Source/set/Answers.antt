@@ -4,7 +4,7 @@ use Rattle.std.proofs.Math.Seq.{take-set-lt}
 use Rattle.std.proofs.lemmas.Nat.{mul-add-lt}
 use Rattle.astc_model.proofs.source.Source.set.Goals as goal
 
--- the places before W * H see the write
+-- the write changes one place below W * H, and so the list that contracts see
 pub returns : goal.returns
 returns g c =
     let at : ℕ = c.args.y * g.row.W + c.args.x in
