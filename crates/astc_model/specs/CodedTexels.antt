@@ -57,7 +57,7 @@ texel_channel w h flavour coded mode level x y c =
     mixed (widened flavour c (channel c colours.0)) (widened flavour c (channel c colours.1))
     weight / 256
 
--- the error color, which a decoder of the LDR profile shows for an illegal encoding
+-- the error colour, which a decoder of the LDR profile shows for an illegal encoding
 abbrev pub error_colour : Texel
 error_colour = 255 ∷ 0 ∷ 255 ∷ 255 ∷ []
 
@@ -69,7 +69,7 @@ texel_at_level w h flavour coded mode (Err fault) x y = error_colour
 texel_at_level w h flavour coded mode (Ok level) x y =
     map (texel_channel w h flavour coded mode level x y) (0 ∷ 1 ∷ 2 ∷ 3 ∷ [])
 
--- the texel at column x, row y, from the decoded mode; the error color without a mode
+-- the texel at column x, row y, from the decoded mode; the error colour without a mode
 abbrev pub texel_under : ℕ → ℕ → Flavour → CodedFields → Option Mode → ℕ → ℕ → Texel
 texel_under w h flavour coded None x y = error_colour
 texel_under w h flavour coded (Some mode) x y =

@@ -18,8 +18,8 @@ use Rattle.astc_model.specs.Reading.{read, constant_block_bytes}
 abbrev pub mean_block : List (Option Texel) → Block
 mean_block places = constant_of (mean_values places)
 
--- the blocks that a preset lists for a source: the constant block of the mean, then the candidate
--- of each legal recipe, in order
+-- the blocks that a preset lists for a source: the void-extent block of the mean, then the
+-- candidate of each legal recipe, in order
 unfoldable pub listed : ℕ → ℕ → Preset → List (Option Texel) → List Block
 listed w h preset places = mean_block places ∷ filter_map (λ recipe. candidate w h recipe places)
     (recipes preset)
@@ -39,7 +39,7 @@ pub record Settled (w h : ℕ) (flavour : Flavour) (weights : Weighting) (preset
   pub no_change : (changed : Block) → Changed block changed
       → e ≤ error w h flavour weights changed places
 
--- no listed block and no proposal has a smaller error than the constant block of the mean
+-- no listed block and no proposal has a smaller error than the void-extent block of the mean
 abbrev pub NoneUnderMean : ℕ → ℕ → Flavour → Weighting → Preset → List (Option Texel) → List Block
     → Type 0
 NoneUnderMean w h flavour weights preset places proposals =
@@ -47,7 +47,7 @@ NoneUnderMean w h flavour weights preset places proposals =
     (listed w h preset places ++ proposals)
 
 -- the bytes are a settled block for this source with the error e, and no proposal has a smaller
--- error. If neither a listed block nor a proposal has a smaller error than the constant block of
+-- error. If neither a listed block nor a proposal has a smaller error than the void-extent block of
 -- the mean, the bytes are those of that block.
 pub record IsSettledBlock (w h : ℕ) (flavour : Flavour) (weights : Weighting) (preset : Preset)
     (places : List (Option Texel)) (proposals : List Block) (bytes : List ℕ) (e : ℕ) : Type 0 where

@@ -10,7 +10,7 @@ use Rattle.astc_model.specs.CodedTexels.{error_colour}
 use Rattle.astc_model.specs.Errors.{texel, place_error}
 use Rattle.astc_model.specs.Reading.{read}
 
--- the texel of a decoded block; the error color for a fault
+-- the texel of a decoded block; the error colour for a fault
 abbrev pub texel_read : ℕ → ℕ → Flavour → Result Block BlockFault → ℕ → ℕ → Texel
 texel_read w h flavour (Ok block) x y = texel w h flavour block x y
 texel_read w h flavour (Err fault) x y = error_colour

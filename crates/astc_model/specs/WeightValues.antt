@@ -45,7 +45,7 @@ weight_by Bits level i = replicated 6 (low_bits_of level) i
 weight_by Trit level i = weight_of_digit level i
 weight_by Quint level i = weight_of_digit level i
 
--- the last step, from 0 to 63 to 0 to 64
+-- the last step: a value of 0 to 63 is stretched to 0 to 64 by adding 1 to values over 32
 abbrev pub stretched : ℕ → ℕ
 stretched value = if nat_lt 32 value then value + 1 else value
 

@@ -15,8 +15,8 @@ pub struct Constant {
     pub extent: [u16; 4],
 }
 
-/// The contents of a block with partitions, colour integers and a weight grid (Khronos Data Format
-/// Specification, ASTC, "Block Layout").
+/// The contents of a coded block, that is, of a block that is not a void extent: partitions, colour
+/// integers and a weight grid (Khronos Data Format Specification, ASTC, "Block Layout").
 #[derive(Debug, PartialEq, Eq, Drop)]
 pub struct Coded {
     /// The block mode, below 2048.

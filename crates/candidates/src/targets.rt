@@ -40,7 +40,7 @@ fn distance_at<const W: usize, const H: usize>(n: u8, m: u8, k: u8, p: usize) ->
         + side_distance(H as u8, m, n, k / n, (p / W) as u8)
 }
 
-// The closer to point `k` of the place `p` and the closest place so far.
+// The one of place `p` and the closest place so far that is closer to point `k`.
 fn nearer<const W: usize, const H: usize>(
     n: u8,
     m: u8,

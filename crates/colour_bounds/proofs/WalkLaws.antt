@@ -132,7 +132,7 @@ far_form false m k most ends some far =
     rw (← more_turned m (k * ends.0) (k * ends.1), ← less_turned m (k * ends.0) (k * ends.1))
     (end_law (swapped m) (k * ends.1) (k * ends.0) most some far)
 
--- the same for the other endpoint
+-- a far other endpoint gives the channel at least its present error, too
 pub other_form : (is_first : Bool) (m : Moments) (k most : ℕ) (ends : ℕ × ℕ)
     → (turned_moments is_first m).first_squares ≢ 0
     → IsEndFar (swapped (turned_moments is_first m)) (k * other_end_of is_first ends) most

@@ -1,6 +1,10 @@
 //! The values of a colour integer that may reduce the error of a block. Lower bounds on the error,
 //! from sums over the texels of the partition, rule out the others without decoding a texel
 //! (Khronos Data Format Specification, ASTC, "LDR Endpoint Decoding").
+//!
+//! The bounds are called forms (`moments`): if the form with a value is at least a number `most`,
+//! the error with the value is at least the present one. The place of an integer is its index, 0 to
+//! 7, among those of its partition.
 #![tactic(auto)]
 
 mod bounds;

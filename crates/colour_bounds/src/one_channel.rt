@@ -41,7 +41,7 @@ pub fn do_fall(cem: u8, values: &[u8; 8]) -> bool
     }
 }
 
-// Whether mode 8, 9, 12 or 13 does not exchange the endpoints.
+// Whether the endpoint mode is 8, 9, 12 or 13, and the decoder does not exchange the endpoints.
 #[inline(always)]
 fn do_rise(cem: u8, values: &[u8; 8]) -> bool
     requires { length values.now ≡ 8 }

@@ -38,7 +38,7 @@ pub struct PartitionScan<'a> {
     /// The unquantized colour values of the partition, followed by zeros.
     pub values: [u8; 8],
     pub floor: PartitionFloor,
-    /// The least form at which the error is at least the present one.
+    /// If the form is at least this number, the error is at least the present one.
     pub most: u64,
 }
 
@@ -154,8 +154,8 @@ pub fn scan_of<'a, const W: usize, const H: usize>(
 }
 
 /// Returns the error of the block with other endpoints for the partition, if the errors of the
-/// partition's places are under `bar` then, else None. The texels are decoded only if the form does
-/// not reach `most`, the least form that excludes errors under `bar`.
+/// partition's places are under `bar` then, else None. A form of at least `most` excludes errors
+/// under `bar`; only if the form is less are the texels decoded.
 pub fn ends_tried<const W: usize, const H: usize, L>(
     scan: &PartitionScan,
     ends: &([u8; 4], [u8; 4]),

@@ -15,8 +15,8 @@ use endpoint_modes::{clamp_byte_of, scaled};
 use error_tables::{OneChannel, PartitionFloor, Tables, form_of, one_channel};
 use moments::{Form, Moments};
 
-/// The term of a channel in the form of a partition as a function of one endpoint e: `square` * e^2
-/// + `slope` * e minus `less_slope` * e.
+/// The term of a channel in the form of a partition as a function of one endpoint e, which is
+/// `square` * e^2 + `slope` * e minus `less_slope` * e.
 #[derive(Clone, Copy)]
 pub struct OneEnd {
     pub square: u64,

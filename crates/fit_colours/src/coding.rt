@@ -41,13 +41,13 @@ pub struct WantedValues {
     second: Option<[u8; 8]>,
 }
 
-/// The value without an endpoint mode.
+/// The initial value, before the values of an endpoint mode are computed.
 pub static NO_VALUES: WantedValues = WantedValues {
     first: [0; 8],
     second: None,
 };
 
-/// The value without a partition.
+/// The initial value, before the endpoints of a partition are computed.
 pub static NO_COLOURS: WantedColours = WantedColours {
     sums: [NO_SUMS; 4],
     gains: [Wrapping(0); 4],

@@ -116,8 +116,8 @@ impl PartCosts {
         }
     }
 
-    // Computes the cost with the endpoint mode of an index. The values of modes with a scale depend
-    // on the level.
+    // Computes the cost with the endpoint mode at index `place` of `ENDPOINT_MODES`. The values of
+    // modes with a scale depend on the level.
     #[inline(never)]
     fn find(&mut self, place: usize, level: Level) -> Number
         requires { 6 ≤ count_of level }
@@ -133,7 +133,7 @@ impl PartCosts {
         cost
     }
 
-    // The cost with the endpoint mode of an index.
+    // The cost with the endpoint mode at index `place` of `ENDPOINT_MODES`.
     #[inline(always)]
     fn at(&mut self, place: usize, level: Level) -> Number
         requires { 6 ≤ count_of level }
@@ -144,7 +144,8 @@ impl PartCosts {
         }
     }
 
-    // The cost with the endpoint mode of an index, or `NO_COST` if there is none.
+    // The cost with the endpoint mode at index `place` of `ENDPOINT_MODES`, or `NO_COST` if the
+    // index stands for no mode.
     #[inline(always)]
     fn cost_at(&mut self, place: usize, level: Level) -> Cost
         requires { 6 ≤ count_of level }
@@ -214,7 +215,7 @@ pub struct Costs {
     weights: [Lanes; 2],
 }
 
-/// The costs before the first layout.
+/// The initial value, before the first layout.
 pub static NO_COSTS: Costs = Costs {
     parts: 0,
     opaque: true,
@@ -348,8 +349,8 @@ impl Costs {
         cems_of(&choices, self.parts, high)
     }
 
-    // The cost if all partitions have the endpoint mode of an index. If it is not under the limit,
-    // the result may be only a part of it.
+    // The cost if all partitions have the endpoint mode at index `place` of `ENDPOINT_MODES`. If it
+    // is not under the limit, the result may be only a part of it.
     #[inline(never)]
     fn find_same(&mut self, place: usize, level: Level, limit: Number) -> Number
         requires { 6 ≤ count_of level }
@@ -365,9 +366,9 @@ impl Costs {
         total
     }
 
-    /// Returns the cost if all partitions have the endpoint mode of an index. If the cost is not
-    /// under the limit, the result may be only a part of it. The cost at level 256 is used as a
-    /// lower bound for all levels.
+    /// Returns the cost if all partitions have the endpoint mode at index `place` of
+    /// `ENDPOINT_MODES`. If the cost is not under the limit, the result may be only a part of it.
+    /// The cost at level 256 is used as a lower bound for all levels.
     pub fn of_same(&mut self, place: usize, level: Level, limit: Number) -> Number
         requires { 6 ≤ count_of level }
     {

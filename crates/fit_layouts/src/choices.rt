@@ -35,7 +35,7 @@ pub struct RankRoom {
     best: BestByRank,
 }
 
-/// The memory before the first block.
+/// The initial scratch memory, before the first block.
 pub static NO_RANK_ROOM: RankRoom = RankRoom {
     misses: [0; 1024],
     best: NO_SEEDS,

@@ -59,7 +59,7 @@ impl Names {
     }
 }
 
-// All runs of a map of partitions, with names for the partitions.
+// The runs of a block whose places have the partitions in `map`, by the names of the partitions.
 fn named_runs<const W: usize, const H: usize>(map: &[u8; 144], names: &mut Names) -> PartitionRuns {
     let mut runs = ArrayVec::new();
     let mut part = map[0];

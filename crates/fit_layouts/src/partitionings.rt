@@ -124,7 +124,7 @@ pub struct Seeds {
 }
 
 impl Seeds {
-    /// Computes the seeds for blocks of a footprint.
+    /// Computes the seeds whose partitionings are distinct in blocks of a footprint.
     #[inline(never)]
     pub fn of<const W: usize, const H: usize>(parts: u8) -> Seeds {
         let mut seeds = Seeds {

@@ -256,7 +256,7 @@ pub struct Positions {
 // squared distance from their mean.
 static NEAR: i64 = 16;
 
-/// The positions before the first block.
+/// The initial value, before the positions of a block are computed.
 pub static NO_POSITIONS: Positions = Positions {
     axes: [NO_AXIS; 4],
     count: 0,

@@ -169,7 +169,7 @@ fn rank_in_parts<const W: usize, const H: usize>(
 }
 
 impl LayoutScratch {
-    /// Returns the memory before the first block.
+    /// Returns the initial scratch memory, before the first block.
     #[inline(never)]
     pub fn new() -> LayoutScratch {
         NO_LAYOUTS

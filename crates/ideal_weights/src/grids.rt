@@ -185,7 +185,7 @@ pub struct Interim {
     columns: GridPoints,
 }
 
-/// The memory before the first infill.
+/// The initial scratch memory, before the first infill.
 pub static NO_INTERIM: Interim = Interim {
     rows: [[0; 16]; 16],
     columns: [[0; 16]; 16],
@@ -198,7 +198,7 @@ pub struct WeightGrid {
     pub down: u8,
     columns: GridAxis,
     rows: GridAxis,
-    /// For each point, 2^20 divided by its sum in `Totals` if each texel has the sensitivity 16.
+    /// The `shares` of [`Totals`] for a block in which each texel has the sensitivity 16.
     pub shares: PointSums,
 }
 
@@ -225,7 +225,7 @@ pub struct PlaneTargets {
     projections: [RowProjection; 13],
 }
 
-/// The targets before the first plane.
+/// The initial value, before the ideal weights of a plane are set.
 pub static NO_TARGETS: PlaneTargets = PlaneTargets {
     texels: [[0; 16]; 12],
     projections: [NO_PROJECTION; 13],
@@ -268,7 +268,7 @@ impl PlaneTargets {
     }
 }
 
-/// The sums before the first grid.
+/// The initial value, before the sums of a grid are computed.
 pub static NO_TOTALS: Totals = Totals {
     sums: [[0; 16]; 16],
     shares: [[0; 16]; 16],
@@ -444,7 +444,7 @@ impl WeightGrid {
         usize::from(self.across).min(12)
     }
 
-    /// How many rows of points there are.
+    /// Returns the number of rows of points, at most 12.
     #[inline]
     pub fn height(&self) -> usize
         ensures { result ≤ 12 }
@@ -452,7 +452,7 @@ impl WeightGrid {
         usize::from(self.down).min(12)
     }
 
-    /// Whether eight lanes hold the rows of points.
+    /// Returns whether a column of points fits into eight lanes.
     #[inline(always)]
     pub fn is_low<const H: usize>(&self) -> bool {
         H <= 8 || self.down <= 8

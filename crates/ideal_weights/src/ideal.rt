@@ -201,7 +201,7 @@ fn length_of(line: &Direction, ends: Extremes, gains: &ByChannel) -> Number {
     quotient(quotient(span * span, own) * counted, own)
 }
 
-/// The value without a layout.
+/// The initial value, before the ideal weights of a layout are computed.
 pub static NO_WANTS: Wants = Wants {
     weights: [[0; 160]; 2],
     lengths: [[Wrapping(0); 4]; 2],
@@ -219,7 +219,7 @@ impl Wants {
     }
 }
 
-/// The value before the first source.
+/// The initial value, before the ideal weights of a layout are computed.
 pub static NO_IDEAL_WEIGHTS: IdealWeights = IdealWeights {
     layout: WHOLE,
     masks: [[0; 160]; 4],

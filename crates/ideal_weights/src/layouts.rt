@@ -9,6 +9,7 @@ pub struct BlockLayout {
     pub plane: u8,
 }
 
+/// The layout with one partition and one plane.
 pub static WHOLE: BlockLayout = BlockLayout {
     parts: 1,
     seed: 0,

@@ -54,8 +54,8 @@ pub fn greatest_of(lengths: &[Number; 4]) -> Number {
     lengths[0].max(lengths[1]).max(lengths[2].max(lengths[3]))
 }
 
-// The number of passes that move points whose first positions count all texels the same although
-// they do not. In small blocks such passes gain nothing.
+// The number of passes that move the points after these were computed as if all texels had the same
+// sensitivity. In small blocks such passes gain nothing.
 #[inline(always)]
 fn uneven_passes<const W: usize, const H: usize>() -> u32 {
     if W.wrapping_mul(H) <= 25 { 0 } else { 1 }
@@ -121,7 +121,7 @@ pub struct Placing {
     is_whole: bool,
 }
 
-/// The memory before the first grid.
+/// The initial value, before the points of a grid are computed.
 pub static NO_PLACING: Placing = Placing {
     points: [[0; 16]; 16],
     numbers: [0; 160],

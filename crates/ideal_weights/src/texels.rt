@@ -82,7 +82,7 @@ fn clear<const W: usize, const H: usize>(numbers: &mut Lanes) {
     }
 }
 
-/// The texels before the first source.
+/// The initial value, before the texels of a source are set.
 pub static NO_TEXELS: Texels = Texels {
     channels: [[0; 160]; 4],
     inside: [0; 160],

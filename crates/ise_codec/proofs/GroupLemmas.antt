@@ -1,4 +1,4 @@
--- Bounds of the parts of a group, and the code's steps that assemble a group.
+-- Bounds on the fields of a group, and the code's steps that assemble a group.
 use Rattle.std.proofs.Common.{◌≡◌, ℕ, ◌+◌, ◌*◌, ◌%◌, ◌^◌, ◌<◌, ◌≤◌, List, get_or, arith}
 use Rattle.std.proofs.lemmas.Nat.{mul-le, shl_whole}
 use Rattle.std.proofs.Math.Nat.{pow-le-pow_right}

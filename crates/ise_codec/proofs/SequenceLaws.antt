@@ -114,7 +114,7 @@ values_in-more digit b n m z same =
     ∙ take-append-add (group_values digit b z) (values_of_groups digit b (group_count digit m) rest)
     m
 
--- at most one group of integers
+-- the integers of at most one group are the first ones of this group
 pub values_in-last : (digit : Digit) (b n z : ℕ) → n ≤ group_size digit → values_in digit b n z
     ≡ take n (group_values digit b z)
 unfolding values_in values_of_groups

@@ -139,7 +139,7 @@ fn quints_of(group: u64, low: u32) -> [u8; 3]
     quints_row(q)
 }
 
-// An integer from its digit and its `low` low bits.
+// An integer with this digit above its `low` low bits.
 fn joined(digit: u8, low: u32, bits: u64) -> u8
     requires width { low ≤ 6 }
     requires fits { digit * 2 ^ low + bits < 256 }

@@ -112,7 +112,7 @@ first_distance g f t =
     + get_or g 2 0 * squared_difference (2 * get_or f 2 0)
     (get_or t 2 0) + get_or g 3 0 * squared_difference (2 * get_or f 3 0) (get_or t 3 0)
 
--- the scalar product of the start minus the targets with the line
+-- the scalar product of the line's slopes with the vector from the targets to the start
 abbrev pub short_of : (gains starts a b targets : List ℕ) → ℤ
 short_of g s a b t =
     short (get_or g 0 0) (get_or a 0 0) (get_or b 0 0) (get_or s 0 0) (get_or t 0 0)
@@ -167,8 +167,8 @@ texel_law k g a b t w fits =
 
 -- ---- the weight that is best
 
--- the inequality for the best weight in plain numbers: l is the squared length of the line, m a
--- multiple of the weight
+-- the inequality that the best weight gives, in plain numbers; l is the squared length of the line,
+-- and m is a multiple of the weight
 best : (l m q x d : ℕ) (y : ℤ) → pos q ≡ pos (1024 * x)
     +ℤ (pos (32 * m) *ℤ y +ℤ pos (32 * m) *ℤ y) +ℤ pos (m * m * l) → y *ℤ y ≡ pos d
     → l * (1024 * x) ≤ l * q + 1024 * d

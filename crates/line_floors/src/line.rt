@@ -22,9 +22,9 @@ pub struct Slopes {
     pub alpha: i64,
 }
 
-/// The line through two endpoints. The scalar product of a texel with the line, from the first
-/// endpoint on, is the linear function `constant` + `slopes` . targets of the texel's targets: its
-/// distance along the line times the square root of `length`.
+/// The line through two endpoints. The scalar product of the line with a texel, from the first
+/// endpoint on, is `constant` plus the products of `slopes` with the texel's targets; the distance
+/// of the texel along the line is this divided by the square root of `length`.
 #[derive(Clone, Copy)]
 pub struct PartitionLine {
     /// The weight of each channel.

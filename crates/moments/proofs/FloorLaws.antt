@@ -66,7 +66,7 @@ pub floored_law : (more less e w most limit : ℕ) → IsFloored more less e w �
 floored_law more less e w most limit h far reached =
     floor_law h.form e h.distance w limit far.root h.moved h.spread far.covered (omega arith)
 
--- if rounding moves each term by a bounded amount, it moves the sum by the sum of these
+-- an inequality between three quantities of each texel holds for their sums
 sum_moved : (q e s : ℕ → ℕ) (n : ℕ) → ((i : ℕ) → i < n → q i ≤ 2 ^ 26 * (4 * e i + 4 * s i + 1))
     → sum_to q n ≤ 2 ^ 26 * (4 * sum_to e n + 4 * sum_to s n + n)
 unfolding sum_to

@@ -16,9 +16,9 @@ pub enum Widening {
 }
 
 /// The sums over a set of texels in one channel that give a lower bound on the error for any two
-/// endpoints. With the weights 64 - w of the first and w of the second endpoint, and the blend t
-/// that decodes to the texel of the source, they are the sums of (64 - w)^2, (64 - w) * w, w^2, (64
-/// - w) * t, w * t and t^2.
+/// endpoints. With the weight w of the second endpoint, u = 64 - w of the first, and the blend t
+/// that decodes to the texel of the source, they are the sums of u^2, u * w, w^2, u * t, w * t and
+/// t^2.
 #[derive(Clone, Copy)]
 pub struct Moments {
     pub first_squares: u64,
@@ -115,7 +115,8 @@ impl Moments {
     }
 }
 
-/// A sum of squares as the difference `more - less` of two numbers that are never negative.
+/// The sum of squares from which a lower bound on the error follows, as the difference
+/// `more - less` of two numbers.
 #[derive(Clone, Copy)]
 pub struct Form {
     pub more: u64,
@@ -142,7 +143,7 @@ fn form_at(moments: &Moments, first: u64, second: u64) -> Form
     }
 }
 
-/// Returns the least value of a form from which follows that the error is at least `limit`.
+/// Returns a number such that the error is at least `limit` if a form is at least this number.
 /// `weight` is the sum of the channel weights over all texels.
 pub fn most(limit: u64, weight: u64) -> u64
     requires limit_small { limit < 2 ^ 30 }

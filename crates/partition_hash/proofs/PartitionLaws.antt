@@ -32,7 +32,7 @@ part_at-lt parts n x y several few =
     first_greatest-parts parts (score r s t 0 x y) (score r s t 1 x y) (score r s t 2 x y)
     (score r s t 3 x y) several few
 
--- the same for one partition or several
+-- a property of the partition of a texel, with one partition or with several
 one_or_more : (b : Bool) (parts part : ℕ) → (parts == 1) ≡ b → 1 ≤ parts
     → (2 ≤ parts → part < parts) → (if b then 0 else part) < parts
 one_or_more true parts part one some several = some

@@ -30,7 +30,7 @@ pub struct PlaceColours {
 }
 
 impl PartitionLanes {
-    /// Returns the indices for places with these partitions.
+    /// Returns the indices for a block whose places have the partitions `parts`.
     pub fn of<const W: usize, const H: usize>(parts: &[u8]) -> PartitionLanes
         requires footprint { IsTrue (is_footprint W H) }
         requires all { length parts.now ≡ W * H }

@@ -4,8 +4,8 @@ ghost use Rattle.texel_lanes.specs.Lanes.{HasLanes, four_products};
 
 use std::simd::prelude::*;
 
-/// Returns the weights of four texels in sixteenths. Each run of four lanes has the values and the
-/// factors of the four grid points around one texel.
+/// Returns the weights of four texels in sixteenths. In `values` and `factors`, each run of four
+/// lanes has the values and the factors of the four grid points around one texel.
 #[inline(always)]
 pub fn numerators(values: u8x16, factors: u8x16) -> u32x4
     requires factors { (k : ℕ) → k < 16 → slice_index factors k ≤ 16 }

@@ -64,7 +64,7 @@ pub fn values_at(values: &[u8], targets: u8x16) -> u8x16
     chosen(places, 32, high, low)
 }
 
-/// Returns the entry of a table of sixteen bytes at each place.
+/// Returns for each lane of `places` the table entry at this index, which is below 16.
 #[inline(always)]
 pub fn picked(table: u8x16, places: u8x16) -> u8x16
     requires { (k : ℕ) → k < 16 → slice_index places k < 16 }

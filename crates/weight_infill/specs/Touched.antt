@@ -29,7 +29,7 @@ touched_below w h n m point k = filter (is_touched w h n m point)
 abbrev pub touched : (w h n m point : ℕ) → List (ℕ × ℕ)
 touched w h n m point = touched_below w h n m point (w * h)
 
--- ---- the same set, computed by columns and rows
+-- ---- the texels that depend on a grid point, computed by columns and rows
 
 -- the position of a texel along a side relative to a column or row of grid points: Near, between
 -- this one and the next; Far, between the previous one and this; both with the sixteenths after the

@@ -15,8 +15,8 @@ pub struct Surroundings<const W: usize, const H: usize> {
     pub columns: u8,
     /// The number of rows of the grid.
     pub rows: u8,
-    /// Index and factor of each point, by place of the texel, in rows from the top. Entries from `W
-    /// * H` on are not used.
+    /// Index and factor of each point, by place of the texel, in rows from the top. Entries from
+    /// `W * H` on are not used.
     around: [[(u8, u8); 4]; 144],
     ghost are: { AreAround W H columns rows (W * H) around },
 }
