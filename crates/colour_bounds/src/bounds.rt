@@ -36,7 +36,7 @@ pub struct ValueBounds {
     /// The range of these values: from `from` up to `before`, exclusive.
     pub from: u16,
     pub before: u16,
-    /// A lower bound on the form for the other values.
+    /// A lower bound on the form for the values outside this range.
     pub least: u64,
     /// The present share in the error of the one channel that the integer moves. None if the
     /// present values are exchanged, or move several channels.

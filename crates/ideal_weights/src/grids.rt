@@ -37,8 +37,8 @@ fn tall<const EIGHTS: usize>() -> usize
 pub struct GridAxis {
     /// For each texel, the last grid point that is not after the texel.
     before: [u8; 12],
-    /// For each texel, its distance after that point, in sixteenths of the distance between two
-    /// points.
+    /// For each texel, its distance after the point in `before`, in sixteenths of the distance
+    /// between two points.
     beyond: [i16; 12],
     /// For each grid point, the sum of its factors in all texels, in sixteenths.
     shares: [i32; 16],
