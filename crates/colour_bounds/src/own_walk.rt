@@ -35,8 +35,8 @@ pub struct OwnWalk {
     pub trend: Trend,
     /// The present share of the channel in the error.
     pub kept: u32,
-    /// Whether the bounds of the walk use the first endpoint of the channel, which rises along the
-    /// order; else the second endpoint does.
+    /// Selects the endpoint of the channel that rises along the order, from which the bounds of the
+    /// walk are computed: the first if true, else the second.
     pub is_first: bool,
     /// The moments of the channel, exchanged if necessary so that this endpoint is the first.
     pub moments: Moments,
@@ -71,8 +71,8 @@ fn is_offsetting(cem: u8) -> bool
     cem == 9 || cem == 13
 }
 
-// Whether the first endpoint rises with the value at `place` (else the second does), in modes 8 and
-// 12.
+// Selects the endpoint that the value at `place` moves in modes 8 and 12, and so rises with it: the
+// first if true, else the second.
 fn exchanged_end(cem: u8, trend: Trend, place: u8) -> bool
     requires mode { IsTrue (is_exchanging cem) }
     requires place { place < endpoint_integers cem }
@@ -84,8 +84,8 @@ fn exchanged_end(cem: u8, trend: Trend, place: u8) -> bool
     }
 }
 
-// Whether the first endpoint rises with the value at `place` (else the second does), in modes 6 and
-// 10. The first one does only for the first alpha.
+// Selects an endpoint that rises with the value at `place` in modes 6 and 10: the first if true,
+// else the second. All values but the first alpha move the second endpoint.
 fn scaled_end(cem: u8, trend: Trend, place: u8) -> bool
     requires mode { IsTrue (is_scaling cem) }
     requires place { place < endpoint_integers cem }
@@ -94,8 +94,8 @@ fn scaled_end(cem: u8, trend: Trend, place: u8) -> bool
     place == 4
 }
 
-// Whether the first endpoint rises with the value at `place` (else the second does), for a base in
-// modes 9 and 13.
+// Selects the endpoint that is the base, which rises with the value at `place`, in modes 9 and 13:
+// the first if true, else the second.
 fn base_end(cem: u8, trend: Trend, place: u8) -> bool
     requires mode { IsTrue (is_offsetting cem) }
     requires place { place < endpoint_integers cem }
@@ -345,7 +345,8 @@ fn is_other_half_far(scan: &PartitionScan, walk: &OwnWalk, place: u8) -> bool
         )
 }
 
-// Whether the first endpoint rises with an offset in this trend (else the second does).
+// Selects the endpoint that rises with an offset in this trend: the first if true, else the second.
+// The other endpoint is the base.
 fn offset_end(trend: Trend) -> bool
     ensures { result ≡ is_falling trend }
 {

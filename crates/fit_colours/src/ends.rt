@@ -11,10 +11,10 @@ pub type ColourEnds = ([u8; 4], [u8; 4]);
 /// estimated.
 ///
 /// With the weight w (0 to 64) and u = 64 - w, a decoder shows about x = (s * (a * u + b * w) + 32)
-/// / 2^14 between the endpoints a and b, where s is 257, or 256 in red, green and blue of sRGB. In
-/// the sums, u and w are multiplied by s, and z is 2^14 times the source's value: plus 8160 for s =
-/// 257, where the middle of the values that are rounded down to a byte is; plus nothing for s =
-/// 256, where 128 in the low byte has this effect.
+/// / 2^14 between the endpoints a and b. The factor s is 257, or 256 in red, green and blue of
+/// sRGB. In the sums, u and w are multiplied by s, and z is 2^14 times the byte of the source, plus
+/// 8160 if s is 257, which leads to the middle of the values that are truncated to this byte; if s
+/// is 256, the low byte 128 has the same effect.
 #[derive(Clone, Copy, Default)]
 pub struct ChannelSums {
     pub uu: Number,

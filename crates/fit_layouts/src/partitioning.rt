@@ -162,8 +162,8 @@ impl SeenPartitionings {
         false
     }
 
-    /// Adds a partitioning. Returns whether each of its `parts` partitions has a place and the set
-    /// did not contain it before.
+    /// Adds a partitioning to the set, unless one of its `parts` partitions has no place. Returns
+    /// whether it was added and the set did not contain it before.
     pub fn is_first(&mut self, partitioning: &Partitioning, parts: u8) -> bool {
         partitioning.parts == parts && self.is_new(hash_of(partitioning.runs()))
     }
