@@ -231,7 +231,8 @@ impl<'a, const W: usize, const H: usize> ErrorState<'a, W, H> {
             ((range_of self.now OfWeight - 1) * reach_count W H self.now OfWeight i) }
     {
         let present = self.weight(i);
-        let scan = weight_scan_of::<W, H>(&self.tables, i);
+        let touches = reach_of_weight::<W, H>(&self.tables, i);
+        let scan = weight_scan_of::<W, H>(&self.tables, i, touches.as_slice());
         best_weight_of::<W, H, L>(&scan, present, steps)
     }
 

@@ -4,6 +4,7 @@ pub mod ChannelFormLaws
 pub mod ColourLaws
 pub mod ColourTrial
 pub mod FloorLaws
+pub mod OutwardLaws
 pub mod PairTrial
 pub mod PartTrial
 pub mod ReachLaws

@@ -3,6 +3,7 @@ pub mod Changed
 pub mod ChannelForms
 pub mod Floors
 pub mod Kept
+pub mod Outward
 pub mod PartReaches
 pub mod Reached
 pub mod RowFloors

@@ -18,13 +18,13 @@ pub record IsWeightScan (w h : ℕ) (scan : WeightScan) : Type 0 where
   pub kept : IsKept w h scan.tables.now
   pub own : scan.i < length scan.tables.now.block.weights.items
   pub reached : IsReach w h scan.tables.now.mode (scan.i / scan.tables.now.mode.planes)
-      scan.tables.now.places.now scan.reach.items
-  pub small_factors : All (λ touch. touch.1 ≤ 16) scan.reach.items
-  pub few_reached : length scan.reach.items ≤ 144
+      scan.tables.now.places.now scan.reach.now
+  pub small_factors : All (λ touch. touch.1 ≤ 16) scan.reach.now
+  pub few_reached : length scan.reach.now ≤ 144
   pub plane_is : scan.plane ≡ scan.i % scan.tables.now.mode.planes
   pub small_plane : scan.plane < 2
   pub old_is : scan.old ≡ weight_value scan.tables.now.mode.level
       (slice_index scan.tables.now.block.weights.items scan.i)
   pub small_old : scan.old ≤ 64
   pub taken_is : scan.taken
-      ≡ sum_by (λ touch. slice_index scan.tables.now.errors touch.0) scan.reach.items
+      ≡ sum_by (λ touch. slice_index scan.tables.now.errors touch.0) scan.reach.now

@@ -9,6 +9,7 @@ mod channels;
 mod colours;
 mod floors;
 mod limits;
+mod outward;
 mod reach;
 mod row_floors;
 mod tables;
@@ -24,4 +25,6 @@ pub use limits::colours_under;
 pub use reach::{part_places, places_of};
 pub use row_floors::{has_rows, is_end_far, least_with_first, swapped, swapped_floor};
 pub use tables::{Tables, follow, tables_of};
-pub use weights::{WeightScan, error_with_weight, reach_of_weight, weight_scan_of, weight_tried};
+pub use weights::{
+    ValueTrial, WeightScan, error_with_weight, reach_of_weight, weight_scan_of, weight_tried,
+};

@@ -1,14 +1,16 @@
 // Trials that stop if they cannot stay below a limit.
-ghost use Rattle.std.specs.Prelude.{◌≡◌, ◌+◌, ◌*◌, ◌/◌, ◌<◌, ◌≤◌, ◌-◌, IfSome, length, slice_index, sum_by, true};
+ghost use Rattle.std.specs.Prelude.{◌≡◌, ℕ, ◌+◌, ◌*◌, ◌/◌, ◌<◌, ◌≤◌, ◌-◌, IfSome, IsTrue, length, slice_index, sum_by, true};
 ghost use Rattle.std.specs.List.{All};
 ghost use Rattle.astc_model.specs.Limits.{most_block_error};
 ghost use Rattle.astc_model.specs.declared.flavour.Flavour.TheVariants.{Linear, Srgb};
 ghost use Rattle.texel_error.specs.Counting.{TakesAtMost};
 ghost use Rattle.texel_error.specs.Limited.{under};
-ghost use Rattle.error_tables.specs.Trials.{weighed, coloured, moved_at, AreTablesSmall, IsKnown};
+ghost use Rattle.error_tables.specs.Trials.{weighed, coloured, AreTablesSmall, IsKnown};
+ghost use Rattle.error_tables.specs.Outward.{AreMovedSmall, IsFurther};
 
+use crate::outward::weighed_outward;
 use crate::tables::Tables;
-use crate::trials::{coloured, weighed};
+use crate::trials::coloured;
 use astc_model::Flavour;
 use texel_error::{Decoded, Steps};
 
@@ -69,9 +71,16 @@ fn known_of(decoded: &Decoded, plane: usize) -> u8
     }
 }
 
+/// The sum of a trial if it is under the bar, and whether no sum is with values further out.
+#[derive(Clone, Copy)]
+pub struct SumTrial {
+    pub more: Option<u32>,
+    pub is_last: bool,
+}
+
 // `weights_under` of a block of which this is known.
 #[inline(always)]
-fn weights_under_as<const KNOWN: u8, const SINGLE: bool, L>(
+fn weights_under_as<const KNOWN: u8, const SINGLE: bool, const UP: bool, L>(
     tables: &Tables,
     reach: &[(u8, u8)],
     plane: usize,
@@ -79,7 +88,7 @@ fn weights_under_as<const KNOWN: u8, const SINGLE: bool, L>(
     new: u8,
     bar: u64,
     steps: &mut Steps<L>,
-) -> Option<u32>
+) -> SumTrial
     requires small { AreTablesSmall tables.now }
     requires known { IsKnown KNOWN SINGLE tables.now.decoded }
     requires few_reached { length reach.now ≤ 144 }
@@ -89,32 +98,42 @@ fn weights_under_as<const KNOWN: u8, const SINGLE: bool, L>(
     requires first { SINGLE ≡ true → plane ≡ 0 }
     requires old { old ≤ 64 }
     requires new { new ≤ 64 }
-    requires moved { All (λ touch.
-        All (λ n. n ≤ 1024) (moved_at tables.now plane old new touch.0 touch.1)) reach.now }
-    ensures exact { result ≡ under bar
+    requires moved { AreMovedSmall tables.now plane old new reach.now }
+    ensures exact { result.more ≡ under bar
         (sum_by (λ touch. weighed tables.now plane old new touch.0 touch.1) reach.now) }
-    ensures small { IfSome result (λ more. more ≤ most_block_error) }
+    ensures small { IfSome result.more (λ more. more ≤ most_block_error) }
+    ensures last { IsTrue result.is_last → (further : ℕ) → IsFurther UP new further
+        → AreMovedSmall tables.now plane old further reach.now → bar
+        ≤ sum_by (λ touch. weighed tables.now plane old further touch.0 touch.1) reach.now }
     ensures steps { TakesAtMost steps.old steps.new (length reach.now) }
 {
     let mut more = 0;
+    let mut floor = 0;
     for touch in reach {
-        if u64::from(more) >= bar {
-            return None;
-        }
-        more += weighed::<KNOWN, SINGLE>(tables, plane, old, new, usize::from(touch.0), touch.1);
+        let place = usize::from(touch.0);
+        let tried =
+            weighed_outward::<KNOWN, SINGLE, UP>(tables, plane, old, new, place, touch.1);
+        more += tried.error;
+        floor += tried.floor;
         steps.tick();
+        if u64::from(more) >= bar {
+            let is_last = u64::from(floor) >= bar;
+            return SumTrial { more: None, is_last };
+        }
     }
-    if u64::from(more) < bar {
+    let more = if u64::from(more) < bar {
         Some(more)
     } else {
         None
-    }
+    };
+    SumTrial { more, is_last: false }
 }
 
 /// The errors of the places that a point touches, with its factors, after the point gets a new
-/// value, if their sum is under the bar. A step is one place, and there are at most as many steps
-/// as places.
-pub fn weights_under<L>(
+/// value, if their sum is under the bar, and whether no sum is under the bar with values further
+/// out: further up if `UP`, else further down. A step is one place, and there are at most as many
+/// steps as places.
+pub fn weights_under<const UP: bool, L>(
     tables: &Tables,
     reach: &[(u8, u8)],
     plane: usize,
@@ -122,7 +141,7 @@ pub fn weights_under<L>(
     new: u8,
     bar: u64,
     steps: &mut Steps<L>,
-) -> Option<u32>
+) -> SumTrial
     requires small { AreTablesSmall tables.now }
     requires few_reached { length reach.now ≤ 144 }
     requires within { All (λ touch. touch.0 < length tables.now.places.now) reach.now }
@@ -130,17 +149,19 @@ pub fn weights_under<L>(
     requires plane { plane < 2 }
     requires old { old ≤ 64 }
     requires new { new ≤ 64 }
-    requires moved { All (λ touch.
-        All (λ n. n ≤ 1024) (moved_at tables.now plane old new touch.0 touch.1)) reach.now }
-    ensures exact { result ≡ under bar
+    requires moved { AreMovedSmall tables.now plane old new reach.now }
+    ensures exact { result.more ≡ under bar
         (sum_by (λ touch. weighed tables.now plane old new touch.0 touch.1) reach.now) }
-    ensures small { IfSome result (λ more. more ≤ most_block_error) }
+    ensures small { IfSome result.more (λ more. more ≤ most_block_error) }
+    ensures last { IsTrue result.is_last → (further : ℕ) → IsFurther UP new further
+        → AreMovedSmall tables.now plane old further reach.now → bar
+        ≤ sum_by (λ touch. weighed tables.now plane old further touch.0 touch.1) reach.now }
     ensures steps { TakesAtMost steps.old steps.new (length reach.now) }
 {
     match known_of(&tables.decoded, plane) {
-        0 => weights_under_as::<0, true, L>(tables, reach, plane, old, new, bar, steps),
-        1 => weights_under_as::<1, true, L>(tables, reach, plane, old, new, bar, steps),
-        _ => weights_under_as::<2, false, L>(tables, reach, plane, old, new, bar, steps),
+        0 => weights_under_as::<0, true, UP, L>(tables, reach, plane, old, new, bar, steps),
+        1 => weights_under_as::<1, true, UP, L>(tables, reach, plane, old, new, bar, steps),
+        _ => weights_under_as::<2, false, UP, L>(tables, reach, plane, old, new, bar, steps),
     }
 }
 

@@ -12,7 +12,7 @@ use texel_error::{Steps, shown};
 
 // The flavour: linear for 0 and sRGB for 1, as the compiler then knows.
 #[inline(always)]
-fn flavour_as<const KNOWN: u8>(flavour: Flavour) -> Flavour
+pub fn flavour_as<const KNOWN: u8>(flavour: Flavour) -> Flavour
     requires linear { KNOWN ≡ 0 → flavour ≡ Linear }
     requires srgb { KNOWN ≡ 1 → flavour ≡ Srgb }
     ensures { result ≡ flavour }
@@ -26,7 +26,7 @@ fn flavour_as<const KNOWN: u8>(flavour: Flavour) -> Flavour
 
 // The number of the second plane: 0 for a single plane, as the compiler then knows.
 #[inline(always)]
-fn plane_as<const SINGLE: bool>(plane: u8) -> u8
+pub fn plane_as<const SINGLE: bool>(plane: u8) -> u8
     requires { SINGLE ≡ true → plane ≡ 0 }
     ensures { result ≡ plane }
 {
@@ -35,7 +35,7 @@ fn plane_as<const SINGLE: bool>(plane: u8) -> u8
 
 // The plane of a weight: the first for a single plane, as the compiler then knows.
 #[inline(always)]
-fn first_as<const SINGLE: bool>(plane: usize) -> usize
+pub fn first_as<const SINGLE: bool>(plane: usize) -> usize
     requires { SINGLE ≡ true → plane ≡ 0 }
     ensures { result ≡ plane }
 {
@@ -71,7 +71,7 @@ fn error_with<const KNOWN: u8, const SINGLE: bool>(
 
 // The numerators after a point gets a new value.
 #[inline(always)]
-fn moved(numerators: [u16; 2], plane: usize, factor: u8, old: u8, new: u8) -> [u16; 2]
+pub fn moved(numerators: [u16; 2], plane: usize, factor: u8, old: u8, new: u8) -> [u16; 2]
     requires plane { plane < 2 }
     requires small { All (λ n. n ≤ 1024) numerators }
     requires factor { factor ≤ 16 }

@@ -1,5 +1,5 @@
 // Trials of one weight.
-ghost use Rattle.std.specs.Prelude.{◌≡◌, ℕ, ◌+◌, ◌*◌, ◌/◌, ◌%◌, ◌<◌, ◌≤◌, ◌-◌, length, slice_index};
+ghost use Rattle.std.specs.Prelude.{◌≡◌, ℕ, ◌+◌, ◌*◌, ◌/◌, ◌%◌, ◌<◌, ◌≤◌, ◌-◌, IsTrue, length, slice_index};
 ghost use Rattle.std.specs.List.{All};
 ghost use Rattle.astc_model.specs.Levels.{count_of};
 ghost use Rattle.astc_model.specs.WeightValues.{weight_value};
@@ -12,6 +12,7 @@ ghost use Rattle.error_tables.specs.Changed.{with_weight};
 ghost use Rattle.error_tables.specs.Reached.{is_touched_inside, IsReach};
 ghost use Rattle.error_tables.specs.State.{view_of, error_in};
 ghost use Rattle.error_tables.specs.Kept.{IsKept};
+ghost use Rattle.error_tables.specs.Outward.{IsFurther};
 ghost use Rattle.error_tables.specs.WeightScans.{IsWeightScan, touches_of_scan};
 
 use crate::around::own_factor;
@@ -117,33 +118,38 @@ pub fn error_with_weight<const W: usize, const H: usize, L>(
 }
 
 /// The data of a weight integer while its values are tried.
-#[derive(Drop)]
+#[derive(Clone, Copy)]
 pub struct WeightScan<'a> {
     /// The tables of the block.
     pub tables: &'a Tables<'a>,
     pub i: u8,
     /// The places inside that its point touches, each with its factor.
-    pub reach: ArrayVec<(u8, u8), 144>,
+    pub reach: &'a [(u8, u8)],
     pub plane: usize,
-    /// The weight, 0 to 64, that it stands for.
+    /// The weight, 0 to 64, of its present value.
     pub old: u8,
     /// The errors that the touched places have.
     pub taken: u32,
 }
 
-/// The data of a weight integer while its values are tried.
+/// The data of a weight integer while its values are tried. The reach is that of `reach_of_weight`.
 pub fn weight_scan_of<'a, const W: usize, const H: usize>(
     tables: &'a Tables<'a>,
     i: u8,
+    reach: &'a [(u8, u8)],
 ) -> WeightScan<'a>
     requires kept { IsKept W H tables.now }
     requires integer { i < length tables.now.block.weights.items }
+    requires reached { IsReach W H tables.now.mode (i / tables.now.mode.planes)
+        tables.now.places.now reach.now }
+    requires within { All (λ touch. touch.0 < 144) reach.now }
+    requires factors { All (λ touch. touch.1 ≤ 16) reach.now }
+    requires few { length reach.now ≤ 144 }
     ensures tables { result.tables.now ≡ tables.now }
     ensures integer { result.i ≡ i }
     ensures scan { IsWeightScan W H result }
 {
-    let reach = reach_of_weight::<W, H>(tables, i);
-    let taken = errors_of_touches(tables, reach.as_slice());
+    let taken = errors_of_touches(tables, reach);
     WeightScan {
         tables,
         i,
@@ -154,27 +160,48 @@ pub fn weight_scan_of<'a, const W: usize, const H: usize>(
     }
 }
 
+/// The result of a trial of a value of a weight integer.
+#[derive(Clone, Copy)]
+pub struct ValueTrial {
+    /// The error of the block with the value, if it is under the limit.
+    pub error: Option<u32>,
+    /// If true, no value further out gives an error under the limit.
+    pub is_last: bool,
+}
+
 /// The error of the block with the integer at another value, if it is under the limit; None exactly
-/// if it is at least the limit. A step is one of the places that its point touches.
-pub fn weight_tried<const W: usize, const H: usize, L>(
+/// if it is at least the limit. Values further out have greater weights if `UP`, else lesser ones.
+/// A step is one of the places that the integer's point touches.
+pub fn weight_tried<const W: usize, const H: usize, const UP: bool, L>(
     scan: &WeightScan,
     value: u8,
     limit: u32,
     steps: &mut Steps<L>,
-) -> Option<u32>
+) -> ValueTrial
     requires scan { IsWeightScan W H scan.now }
     requires range { value < count_of scan.now.tables.now.mode.level }
-    ensures exact { result ≡ under limit
+    ensures exact { result.error ≡ under limit
         (error_in W H (view_of scan.now.tables.now)
         (Coded (with_weight scan.now.tables.now.block scan.now.i value))) }
+    ensures last { IsTrue result.is_last → (further : ℕ)
+        → further < count_of scan.now.tables.now.mode.level
+        → IsFurther UP (weight_value scan.now.tables.now.mode.level value)
+        (weight_value scan.now.tables.now.mode.level further)
+        → limit ≤ error_in W H (view_of scan.now.tables.now)
+        (Coded (with_weight scan.now.tables.now.block scan.now.i further)) }
     ensures steps { TakesAtMost steps.old steps.new (touches_of_scan W H scan.now) }
 {
     let tables = scan.tables;
     let new = weight_value(tables.mode.level, value);
     let bar = bar(tables.total, scan.taken, limit);
-    let reach = scan.reach.as_slice();
-    match weights_under(tables, reach, scan.plane, scan.old, new, bar, steps) {
-        None => None,
-        Some(more) => Some(tables.total + more - scan.taken),
+    let tried =
+        weights_under::<UP, L>(tables, scan.reach, scan.plane, scan.old, new, bar, steps);
+    let is_last = tried.is_last;
+    match tried.more {
+        None => ValueTrial { error: None, is_last },
+        Some(more) => {
+            let error = Some(tables.total + more - scan.taken);
+            ValueTrial { error, is_last }
+        }
     }
 }

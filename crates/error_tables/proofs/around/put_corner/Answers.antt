@@ -1,4 +1,4 @@
-use Rattle.std.proofs.Common.{◌<◌, ◌≤◌, length, ap, ◌∙◌, arith, rules}
+use Rattle.std.proofs.Common.{◌≤◌, ap, ◌∙◌, arith, rules}
 use Rattle.std.proofs.lemmas.List.Elements.{All-set}
 use Rattle.astc_model.proofs.ListLaws.{fill_step}
 use Rattle.error_tables.specs.Arounds.{corner_at, factor_inside}
