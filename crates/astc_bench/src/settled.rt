@@ -4,7 +4,7 @@ ghost use Rattle.astc_model.specs.Footprints.{is_footprint};
 
 use astc_model::{Block, ChannelWeights, Flavour, Footprint, Preset, Source};
 use descent::{Search, fit_scratch, settled_best};
-use texel_error::{Goal, Steps};
+use texel_error::Goal;
 
 /// The width and the height of a picture in texels.
 pub const SIDE: u32 = 256;
@@ -122,12 +122,12 @@ pub fn settle_pass<const W: usize, const H: usize>(
 ) -> SettledTotals
     requires { IsTrue (is_footprint W H) }
 {
-    let mut steps = Steps::<()>::new();
     fit_scratch!(scratch);
     let none: [Block; 0] = [];
     let columns = (SIDE + W as u32 - 1) / W as u32;
     let rows = (SIDE + H as u32 - 1) / H as u32;
     let mut blocks = 0u64;
+    let mut texels = 0u64;
     let mut error = 0u64;
     for place in 0..columns * rows {
         if place % step.max(1) == 0 {
@@ -136,14 +136,15 @@ pub fn settle_pass<const W: usize, const H: usize>(
                 place / columns * H as u32,
             );
             let goal = Goal::new(Flavour::Linear, ChannelWeights::even(), &source);
-            let best = settled_best(search, &goal, &none, scratch, &mut steps);
+            let found = settled_best(search, &goal, &none, scratch);
             blocks = blocks.wrapping_add(1);
-            error = error.wrapping_add(u64::from(best.error));
+            texels = texels.wrapping_add(found.steps.number());
+            error = error.wrapping_add(u64::from(found.best.error));
         }
     }
     SettledTotals {
         blocks,
-        texels: steps.number(),
+        texels,
         error,
     }
 }

@@ -21,6 +21,7 @@ use Rattle.astc_model.specs.declared.block.Block.TheVariants.{Coded}
 use Rattle.recipes.proofs.WalkLaws.{all-weaker, all-append, append-all}
 use Rattle.texel_error.specs.Goals.{GoalView, error_to}
 use Rattle.listed_walk.specs.declared.best.Best.{Best}
+use Rattle.listed_walk.specs.declared.best.Progress.{Progress}
 use Rattle.listed_walk.specs.Looks.{IsSoundBest, Looks, NoListedUnder}
 use Rattle.descent.specs.Encoding.{BeginsAt, IsBestFor, IsBestAmong, IsSettledBest, IsSettledAmong}
 use Rattle.descent.specs.Proposals.{NoProposalUnder, nothing_under}
@@ -95,56 +96,58 @@ module _ (w h : ℕ) (goal : GoalView) (preset : Preset) (proposals : List Block
   none_fitted true None e exact = tt
   none_fitted true (Some coded) e exact = (omega (arith, exact), tt)
 
-  module _ (fits : Bool) (limit : ℕ) (a b c : Best) (at_mean : limit
+  module _ (fits : Bool) (limit : ℕ) (a b c : Progress) (at_mean : limit
       ≡ error_to w h goal (mean_block goal.places)) (few : limit ≤ most_block_error)
-      (begun : BeginsAt w h goal fits proposals limit a)
+      (begun : BeginsAt w h goal fits proposals limit a.best)
       (walked : Looks (NoListedUnder w h goal preset) a b)
       (proposed : Looks (NoProposalUnder w h goal proposals (length proposals)) b c)
-      (sound : IsSoundBest w h goal c) where
-    none_listed : NoneUnder w h goal.flavour goal.weights goal.places c.error
+      (sound : IsSoundBest w h goal c.best) where
+    none_listed : NoneUnder w h goal.flavour goal.weights goal.places c.best.error
         (listed w h preset goal.places)
     unfolding listed
     none_listed = (
       omega (arith, at_mean, begun.lower, walked.lower, proposed.lower),
       none_under_less w h goal.flavour goal.weights goal.places
-          (filter_map (λ recipe. candidate w h recipe goal.places) (recipes preset)) b.error c.error
+          (filter_map (λ recipe. candidate w h recipe goal.places) (recipes preset)) b.best.error
+          c.best.error
           proposed.lower
           (walked.least (omega arith)),
     )
 
-    none_proposed : NoneUnder w h goal.flavour goal.weights goal.places c.error proposals
+    none_proposed : NoneUnder w h goal.flavour goal.weights goal.places c.best.error proposals
     none_proposed =
-        let least : NoProposalUnder w h goal proposals (length proposals) c.error =
+        let least : NoProposalUnder w h goal proposals (length proposals) c.best.error =
         proposed.least (omega arith) in
-        recursion_from_All (λ block. c.error ≤ error_to w h goal block) proposals
+        recursion_from_All (λ block. c.best.error ≤ error_to w h goal block) proposals
         (λ k d within. least k d within within)
 
     -- if the search began with nothing and nothing is under the mean constant, nothing is kept
-    nothing_kept : a ≡ nothing_under limit
-        → NoneUnderMean w h goal.flavour goal.weights preset goal.places proposals → c
-        ≡ nothing_under limit
+    nothing_kept : a.best ≡ nothing_under limit
+        → NoneUnderMean w h goal.flavour goal.weights preset goal.places proposals
+        → c.best ≡ nothing_under limit
     unfolding listed
     nothing_kept start none =
         let both = append-all (λ block. mean_error ≤ error_to w h goal block)
         (listed w h preset goal.places) proposals none in
         let all = All-from_recursion (λ block. mean_error ≤ error_to w h goal block) proposals
         both.1 in
-        let at_start : a.error ≡ mean_error = ap (λ best. best.error) start ∙ at_mean in
-        let first : b ≡ a = walked.kept (rw at_start both.0.1) in
-        let same : b.error ≡ mean_error = ap (λ best. best.error) first ∙ at_start in
+        let at_start : a.best.error ≡ mean_error = ap (λ best. best.error) start ∙ at_mean in
+        let first : b.best ≡ a.best = walked.kept (rw at_start both.0.1) in
+        let same : b.best.error ≡ mean_error = ap (λ best. best.error) first ∙ at_start in
         proposed.kept (λ k d below within. rw same (all k d within)) ∙ (first ∙ start)
 
     -- if there is no block, nothing was kept either
-    still_at_first : c.block ≡ None → c ≡ nothing_under limit
+    still_at_first : c.best.block ≡ None → c.best ≡ nothing_under limit
     still_at_first none =
-        let last : c ≡ b = proposed.none_yet none in
-        let before : b.block ≡ None = sym (ap (λ best. best.block) last) ∙ none in
-        let middle : b ≡ a = walked.none_yet before in
+        let last : c.best ≡ b.best = proposed.none_yet none in
+        let before : b.best.block ≡ None = sym (ap (λ best. best.block) last) ∙ none in
+        let middle : b.best ≡ a.best = walked.none_yet before in
         last ∙ (middle ∙ begun.none_yet (sym (ap (λ best. best.block) middle) ∙ before))
 
     -- without fits
     plain_tie : fits ≡ false
-        → NoneUnderMean w h goal.flavour goal.weights preset goal.places proposals → c.block ≡ None
+        → NoneUnderMean w h goal.flavour goal.weights preset goal.places proposals
+        → c.best.block ≡ None
     unfolding listed
     plain_tie plain none =
         let both = append-all (λ block. mean_error ≤ error_to w h goal block)
@@ -156,8 +159,9 @@ module _ (w h : ℕ) (goal : GoalView) (preset : Preset) (proposals : List Block
 
     -- with fits a block that was kept has an error under the mean constant's
     fitted_tie : fits ≡ true
-        → NoneUnderMean w h goal.flavour goal.weights preset goal.places proposals → limit ≤ c.error
-        → c.block ≡ None
+        → NoneUnderMean w h goal.flavour goal.weights preset goal.places proposals
+        → limit ≤ c.best.error
+        → c.best.block ≡ None
     fitted_tie fit none least =
         ap (λ best. best.block)
         (nothing_kept (begun.under fit (omega (arith, least, walked.lower, proposed.lower)))
@@ -174,30 +178,30 @@ module _ (w h : ℕ) (goal : GoalView) (preset : Preset) (proposals : List Block
         let rest = append-all P fitted proposals both.1 in
         (rest.0, all-append P (listed w h preset goal.places) proposals both.0 rest.1)
 
-    tie : (f : Bool) (block : Option CodedFields) → f ≡ fits → block ≡ c.block
+    tie : (f : Bool) (block : Option CodedFields) → f ≡ fits → block ≡ c.best.block
         → NoneUnderMean w h goal.flavour goal.weights preset goal.places
-        (fitted_of f block ++ proposals) → c.block ≡ None
+        (fitted_of f block ++ proposals) → c.best.block ≡ None
     tie false block plain is none = plain_tie (sym plain) none
     tie true None fit is none = sym is
     tie true (Some coded) fit is none =
-        let exact : c.error ≡ error_to w h goal (Coded coded) = rw (sym is) at sound.exact in
+        let exact : c.best.error ≡ error_to w h goal (Coded coded) = rw (sym is) at sound.exact in
         let apart = without_fitted (Coded coded ∷ []) none in
         fitted_tie (sym fit) apart.1 (omega (arith, at_mean, exact, apart.0.0))
 
-    pub best_of_all : IsBestAmong w h goal preset fits proposals c
+    pub best_of_all : IsBestAmong w h goal preset fits proposals c.best
     best_of_all =
-        let P : Block → Type 0 = λ block. c.error ≤ error_to w h goal block in
+        let P : Block → Type 0 = λ block. c.best.error ≤ error_to w h goal block in
         record {
-          fitted = fitted_of fits c.block;
+          fitted = fitted_of fits c.best.block;
           plain = λ plain. rw plain refl;
           best_for = record {
             sound = sound;
             small = omega (arith, begun.lower, walked.lower, proposed.lower, few);
             none_listed = none_listed;
-            none_proposed = all-append P (fitted_of fits c.block) proposals
-                (none_fitted fits c.block c.error sound.exact) none_proposed;
+            none_proposed = all-append P (fitted_of fits c.best.block) proposals
+                (none_fitted fits c.best.block c.best.error sound.exact) none_proposed;
             mean = λ none. ap (λ best. best.error) (still_at_first none) ∙ at_mean;
-            tie = tie fits c.block refl refl;
+            tie = tie fits c.best.block refl refl;
           };
         }
 

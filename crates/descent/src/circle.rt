@@ -8,11 +8,11 @@ use error_state::{CodedKind, ErrorState};
 use texel_error::Steps;
 
 // Gives an integer the value with the least error; whether that is another one.
-fn settle_integer<const W: usize, const H: usize, L>(
+fn settle_integer<const W: usize, const H: usize>(
     state: &mut ErrorState<W, H>,
     kind: CodedKind,
     i: u8,
-    steps: &mut Steps<L>,
+    steps: &mut Steps<()>,
 ) -> bool
     requires { i < integers_of state.old kind }
     ensures moves { Moves W H state.old state.new result }
@@ -29,10 +29,10 @@ fn settle_integer<const W: usize, const H: usize, L>(
 }
 
 // Settles the integer at a place of the circle in which the weights follow the colours.
-fn settle_place<const W: usize, const H: usize, L>(
+fn settle_place<const W: usize, const H: usize>(
     state: &mut ErrorState<W, H>,
     place: u8,
-    steps: &mut Steps<L>,
+    steps: &mut Steps<()>,
 ) -> bool
     requires { place < integers_of state.old OfColour + integers_of state.old OfWeight }
     ensures moves { Moves W H state.old state.new result }
@@ -69,10 +69,7 @@ fn still_after(moved: bool, still: u8) -> u8
 
 /// Changes single integers of the block until no other value of one gives a smaller error: until
 /// each integer of the circle was looked at since the last change.
-pub fn descend<const W: usize, const H: usize, L>(
-    state: &mut ErrorState<W, H>,
-    steps: &mut Steps<L>,
-)
+pub fn descend<const W: usize, const H: usize>(state: &mut ErrorState<W, H>, steps: &mut Steps<()>)
     ensures descends { Descends W H state.old state.new }
     ensures never_falls { steps.old ≤ steps.new }
 {

@@ -8,7 +8,7 @@ ghost use Rattle.astc_model.specs.Settled.{IsSettledBlock};
 ghost use Rattle.astc_model.specs.declared.block.Block.{Block as AnyBlock};
 ghost use Rattle.astc_model.specs.declared.preset.Preset.{Preset as AnyPreset};
 ghost use Rattle.listed_walk.specs.Looks.{IsSoundBest};
-ghost use Rattle.descent.specs.Encoding.{BeginsAt, IsBestAmong, IsSettledAmong, IsSettledBest, best_block};
+ghost use Rattle.descent.specs.Encoding.{BeginsAt, IsSettledAmong, IsSettledBest, best_block};
 ghost use Rattle.descent.specs.Proposals.{NoConstantUnder, nothing_under};
 
 use crate::proposals::{look_at_proposals, settled_proposal};
@@ -20,101 +20,77 @@ use astc_model::{
 };
 use block_fit::FitScratch;
 use block_writer::write_block;
-use listed_walk::Best;
+use listed_walk::{Best, Progress};
 use texel_error::{Goal, Steps};
 
 // The best of fitted blocks and of the proposals that have an error under the limit, settled.
 #[inline(never)]
-fn fitted_start<const W: usize, const H: usize, L>(
+fn fitted_start<const W: usize, const H: usize>(
     search: &Search<W, H>,
     goal: &Goal<W, H>,
     proposals: &[Block],
     limit: u32,
     scratch: &mut FitScratch,
-    steps: &mut Steps<L>,
-) -> Best
+) -> Progress
     requires legal { All (Legal W H) proposals.now }
     requires constants { NoConstantUnder W H goal.now limit }
-    ensures sound { IsSoundBest W H goal.now result }
-    ensures lower { result.error ≤ limit }
-    ensures none_yet { result.block ≡ None → result ≡ nothing_under limit }
-    ensures under { limit ≤ result.error → result ≡ nothing_under limit }
-    ensures never_falls { steps.old ≤ steps.new }
+    ensures sound { IsSoundBest W H goal.now result.best }
+    ensures lower { result.best.error ≤ limit }
+    ensures none_yet { result.best.block ≡ None → result.best ≡ nothing_under limit }
+    ensures under { limit ≤ result.best.error → result.best ≡ nothing_under limit }
 {
-    let mut best = Best::under(limit);
+    let mut progress = Progress::under(limit);
     if limit > 0 {
-        look_at_fitted(search, goal, scratch, &mut best, steps);
+        look_at_fitted(search, goal, scratch, &mut progress);
     }
-    look_at_proposals(proposals, goal, &mut best, steps);
-    settle(goal, &mut best, steps);
-    if best.error < limit {
-        best
-    } else {
-        Best::under(limit)
+    look_at_proposals(proposals, goal, &mut progress);
+    settle(goal, &mut progress);
+    if progress.best.error >= limit {
+        progress.best = Best::under(limit);
     }
+    progress
 }
 
 // The start of a search: a block with an error under the limit, if there is one.
-fn start<const W: usize, const H: usize, L>(
+fn start<const W: usize, const H: usize>(
     search: &Search<W, H>,
     goal: &Goal<W, H>,
     proposals: &[Block],
     limit: u32,
     scratch: &mut FitScratch,
-    steps: &mut Steps<L>,
-) -> Best
+) -> Progress
     requires legal { All (Legal W H) proposals.now }
     requires constants { NoConstantUnder W H goal.now limit }
-    ensures sound { IsSoundBest W H goal.now result }
-    ensures begins { BeginsAt W H goal.now search.now.fits proposals.now limit result }
-    ensures never_falls { steps.old ≤ steps.new }
+    ensures sound { IsSoundBest W H goal.now result.best }
+    ensures begins { BeginsAt W H goal.now search.now.fits proposals.now limit result.best }
 {
     if search.fits {
-        fitted_start(search, goal, proposals, limit, scratch, steps)
+        fitted_start(search, goal, proposals, limit, scratch)
     } else {
-        settled_proposal(proposals, goal, limit, steps)
+        settled_proposal(proposals, goal, limit)
     }
 }
 
-// The best of the mean constant, which is not a block here, the listed blocks, the proposals, and
-// fitted blocks if they count as such.
-fn best_start<const W: usize, const H: usize, L>(
+/// The best block for a source, or none if the mean constant is as good: no block that the preset
+/// lists has a smaller error, nor has a proposal, nor a fitted block if it counts as one, nor a
+/// block that differs in one integer. The steps are those of the whole search.
+pub fn settled_best<const W: usize, const H: usize>(
     search: &Search<W, H>,
     goal: &Goal<W, H>,
     proposals: &[Block],
     scratch: &mut FitScratch,
-    steps: &mut Steps<L>,
-) -> Best
+) -> Progress
     requires { All (Legal W H) proposals.now }
-    ensures best { IsBestAmong W H goal.now search.now.preset search.now.fits proposals.now result }
-    ensures never_falls { steps.old ≤ steps.new }
+    ensures best { IsSettledAmong W H goal.now search.now.preset search.now.fits proposals.now
+        result.best }
 {
     let source = goal.source();
     let limit = constant_error(mean_constant(source), goal.weights(), source);
-    let mut best = start(search, goal, proposals, limit, scratch, steps);
-    look_at_fitted_and_listed(search, goal, scratch, &mut best, steps);
-    look_at_proposals(proposals, goal, &mut best, steps);
-    best
-}
-
-/// The best block for a source, or None if the mean constant is as good: no block that the preset
-/// lists has a smaller error, nor has a proposal, nor a fitted block if it counts as one, nor a
-/// block that differs in one integer. The counter never falls.
-pub fn settled_best<const W: usize, const H: usize, L>(
-    search: &Search<W, H>,
-    goal: &Goal<W, H>,
-    proposals: &[Block],
-    scratch: &mut FitScratch,
-    steps: &mut Steps<L>,
-) -> Best
-    requires { All (Legal W H) proposals.now }
-    ensures best { IsSettledAmong W H goal.now search.now.preset search.now.fits proposals.now
-        result }
-    ensures never_falls { steps.old ≤ steps.new }
-{
-    let mut best = best_start(search, goal, proposals, scratch, steps);
-    settle(goal, &mut best, steps);
-    best
+    let mut progress = start(search, goal, proposals, limit, scratch);
+    look_at_fitted_and_listed(search, goal, scratch, &mut progress);
+    look_at_proposals(proposals, goal, &mut progress);
+    settle(goal, &mut progress);
+    progress
 }
 
 /// The bytes of the best block, or of the mean constant if there is none.
@@ -129,6 +105,15 @@ pub fn bytes_of<const W: usize, const H: usize>(goal: &Goal<W, H>, best: &Best) 
     match &best.block {
         None => constant_bytes(mean_constant(goal.source())),
         Some(coded) => write_block::<W, H>(&Block::Coded(coded.copy())),
+    }
+}
+
+// Counts the steps of a search on a counter of any owner.
+fn count_steps<L>(taken: u64, steps: &mut Steps<L>)
+    ensures never_falls { steps.old ≤ steps.new }
+{
+    for _ in 0..taken {
+        steps.tick();
     }
 }
 
@@ -168,6 +153,7 @@ pub fn encode_block<const W: usize, const H: usize, L>(
         tables: SearchView::none(),
     };
     crate::fit_scratch!(scratch);
-    let best = settled_best(&search, &goal, proposals, scratch, steps);
-    (bytes_of(&goal, &best), best.error)
+    let progress = settled_best(&search, &goal, proposals, scratch);
+    count_steps(progress.steps.number(), steps);
+    (bytes_of(&goal, &progress.best), progress.best.error)
 }

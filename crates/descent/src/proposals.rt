@@ -5,60 +5,56 @@ ghost use Rattle.astc_model.specs.Blocks.{Legal};
 ghost use Rattle.astc_model.specs.declared.block.Block.TheVariants.{Coded as CodedBlock};
 ghost use Rattle.texel_error.specs.Goals.{error_to};
 ghost use Rattle.listed_walk.specs.Looks.{IsSoundBest, Looks, LooksTo, NoChangeUnder};
-ghost use Rattle.descent.specs.Proposals.{NoProposalUnder, NoConstantUnder, nothing_under};
+ghost use Rattle.descent.specs.Proposals.{NoProposalUnder, NoConstantUnder, no_steps, nothing_under};
 
 use crate::least::is_least_coded;
 use astc_model::Block;
-use listed_walk::{Best, look};
+use listed_walk::{Best, Progress, look};
 use texel_error::{Goal, Steps};
 
 // Looks at one proposal; a constant block has no smaller error than the mean constant, so it is
 // passed over.
-fn look_at_proposal<const W: usize, const H: usize, L>(
+fn look_at_proposal<const W: usize, const H: usize>(
     proposal: &Block,
     goal: &Goal<W, H>,
-    best: &mut Best,
-    steps: &mut Steps<L>,
+    progress: &mut Progress,
 )
     requires legal { Legal W H proposal.now }
-    requires sound { IsSoundBest W H goal.now best.old }
-    requires constants { NoConstantUnder W H goal.now best.old.error }
-    ensures sound { IsSoundBest W H goal.now best.new }
-    ensures looks { Looks (λ e. e ≤ error_to W H goal.now proposal.now) best.old best.new }
-    ensures never_falls { steps.old ≤ steps.new }
+    requires sound { IsSoundBest W H goal.now progress.old.best }
+    requires constants { NoConstantUnder W H goal.now progress.old.best.error }
+    ensures sound { IsSoundBest W H goal.now progress.new.best }
+    ensures looks { Looks (λ e. e ≤ error_to W H goal.now proposal.now) progress.old progress.new }
 {
     match proposal {
-        Block::Coded(coded) => look(coded.copy(), goal, best, steps),
+        Block::Coded(coded) => look(coded.copy(), goal, progress),
         Block::Constant(_) => {}
     }
 }
 
 /// Looks at each proposal, and keeps the best of them and of what there was before, which is no
 /// worse than any constant block.
-pub fn look_at_proposals<const W: usize, const H: usize, L>(
+pub fn look_at_proposals<const W: usize, const H: usize>(
     proposals: &[Block],
     goal: &Goal<W, H>,
-    best: &mut Best,
-    steps: &mut Steps<L>,
+    progress: &mut Progress,
 )
     requires legal { All (Legal W H) proposals.now }
-    requires sound { IsSoundBest W H goal.now best.old }
-    requires constants { NoConstantUnder W H goal.now best.old.error }
-    ensures sound { IsSoundBest W H goal.now best.new }
+    requires sound { IsSoundBest W H goal.now progress.old.best }
+    requires constants { NoConstantUnder W H goal.now progress.old.best.error }
+    ensures sound { IsSoundBest W H goal.now progress.new.best }
     ensures looks { Looks (NoProposalUnder W H goal.now proposals.now (length proposals.now))
-        best.old best.new }
-    ensures never_falls { steps.old ≤ steps.new }
+        progress.old progress.new }
 {
     for proposal in proposals {
-        look_at_proposal(proposal, goal, best, steps);
+        look_at_proposal(proposal, goal, progress);
     }
 }
 
 // Whether no change of one integer of the present block gives a smaller error.
-fn is_settled<const W: usize, const H: usize, L>(
+fn is_settled<const W: usize, const H: usize>(
     goal: &Goal<W, H>,
     best: &Best,
-    steps: &mut Steps<L>,
+    steps: &mut Steps<()>,
 ) -> bool
     requires { IsSoundBest W H goal.now best.now }
     ensures settled { IsTrue result
@@ -78,29 +74,25 @@ fn is_settled<const W: usize, const H: usize, L>(
 /// block, and so does an encoder whose texture is polished.
 ///
 /// Not promised: the choice of the proposal, or its existence.
-pub fn settled_proposal<const W: usize, const H: usize, L>(
+pub fn settled_proposal<const W: usize, const H: usize>(
     proposals: &[Block],
     goal: &Goal<W, H>,
     limit: u32,
-    steps: &mut Steps<L>,
-) -> Best
+) -> Progress
     requires legal { All (Legal W H) proposals.now }
     requires constants { NoConstantUnder W H goal.now limit }
-    ensures sound { IsSoundBest W H goal.now result }
-    ensures settled { IfSome result.block (λ coded. IsTrue result.settled) }
+    ensures sound { IsSoundBest W H goal.now result.best }
+    ensures settled { IfSome result.best.block (λ coded. IsTrue result.best.settled) }
     ensures takes { LooksTo (limit + 1)
         (NoProposalUnder W H goal.now proposals.now (length proposals.now))
-        (nothing_under limit) result }
-    ensures never_falls { steps.old ≤ steps.new }
+        (no_steps (nothing_under limit)) result }
 {
-    let mut best = Best::under(limit);
-    look_at_proposals(proposals, goal, &mut best, steps);
-    if is_settled(goal, &best, steps) {
-        Best {
-            settled: true,
-            ..best
-        }
+    let mut progress = Progress::under(limit);
+    look_at_proposals(proposals, goal, &mut progress);
+    if is_settled(goal, &progress.best, &mut progress.steps) {
+        progress.best.settled = true;
     } else {
-        Best::under(limit)
+        progress.best = Best::under(limit);
     }
+    progress
 }

@@ -1,12 +1,12 @@
 // How blocks are searched for, and the best of the listed ones, from fitted blocks on.
 ghost use Rattle.std.specs.Prelude.{◌≡◌, ◌≤◌, ◌↔◌, None, IsTrue};
-ghost use Rattle.listed_walk.specs.Looks.{IsSoundBest, Looks, NoListedUnder};
+ghost use Rattle.listed_walk.specs.Looks.{IsSoundBest, Improves, Looks, NoListedUnder};
 
 use crate::fits::look_at_fits;
 use crate::tables::SearchView;
 use astc_model::Preset;
 use block_fit::{Effort, FitScratch};
-use listed_walk::{Best, OwnGrids, Walk, lists_none_under};
+use listed_walk::{OwnGrids, Progress, Walk, lists_none_under};
 use texel_error::{Goal, Steps};
 
 /// How blocks are searched for.
@@ -21,65 +21,58 @@ pub struct Search<'a, const W: usize, const H: usize> {
 }
 
 /// Tries fitted blocks after a descent each, if the fit gives some.
-pub fn look_at_fitted<const W: usize, const H: usize, L>(
+pub fn look_at_fitted<const W: usize, const H: usize>(
     search: &Search<W, H>,
     goal: &Goal<W, H>,
     scratch: &mut FitScratch,
-    best: &mut Best,
-    steps: &mut Steps<L>,
+    progress: &mut Progress,
 )
-    requires { IsSoundBest W H goal.now best.old }
-    ensures sound { IsSoundBest W H goal.now best.new }
-    ensures lower { best.new.error ≤ best.old.error }
-    ensures none_yet { best.new.block ≡ None → best.new ≡ best.old }
-    ensures never_falls { steps.old ≤ steps.new }
+    requires { IsSoundBest W H goal.now progress.old.best }
+    ensures sound { IsSoundBest W H goal.now progress.new.best }
+    ensures improves { Improves progress.old progress.new }
 {
     let effort = Effort::of(search.preset, W.wrapping_mul(H));
-    look_at_fits(&effort, search.tables.fit, goal, scratch, best, steps);
+    look_at_fits(&effort, search.tables.fit, goal, scratch, progress);
 }
 
 // Looks at the fits and at the candidates as `look_at_fitted_and_listed` does, by a walk.
-fn look_by<const W: usize, const H: usize, L>(
+fn look_by<const W: usize, const H: usize>(
     walk: &Walk<W, H>,
     search: &Search<W, H>,
     goal: &Goal<W, H>,
     scratch: &mut FitScratch,
-    best: &mut Best,
-    steps: &mut Steps<L>,
+    progress: &mut Progress,
 )
     requires walk { walk.now ≡ goal.now }
-    requires sound { IsSoundBest W H goal.now best.old }
-    ensures sound { IsSoundBest W H goal.now best.new }
-    ensures looks { Looks (NoListedUnder W H goal.now search.now.preset) best.old best.new }
-    ensures never_falls { steps.old ≤ steps.new }
+    requires sound { IsSoundBest W H goal.now progress.old.best }
+    ensures sound { IsSoundBest W H goal.now progress.new.best }
+    ensures looks { Looks (NoListedUnder W H goal.now search.now.preset) progress.old progress.new }
 {
-    if walk.is_none_under(search.preset, best.error, steps) {
+    if walk.is_none_under(search.preset, progress.best.error, &mut progress.steps) {
         return;
     }
-    if !(best.settled || search.fits) {
-        look_at_fitted(search, goal, scratch, best, steps);
+    if !(progress.best.settled || search.fits) {
+        look_at_fitted(search, goal, scratch, progress);
     }
-    walk.look_at_listed(search.preset, best, steps);
+    walk.look_at_listed(search.preset, 0, progress);
 }
 
 // The walk over grids that are made for the source: 16 KB of stack, which a source with a kept
 // pattern need not clear.
 #[inline(never)]
-fn look_by_own_grids<const W: usize, const H: usize, L>(
+fn look_by_own_grids<const W: usize, const H: usize>(
     search: &Search<W, H>,
     goal: &Goal<W, H>,
     scratch: &mut FitScratch,
-    best: &mut Best,
-    steps: &mut Steps<L>,
+    progress: &mut Progress,
 )
-    requires { IsSoundBest W H goal.now best.old }
-    ensures sound { IsSoundBest W H goal.now best.new }
-    ensures looks { Looks (NoListedUnder W H goal.now search.now.preset) best.old best.new }
-    ensures never_falls { steps.old ≤ steps.new }
+    requires { IsSoundBest W H goal.now progress.old.best }
+    ensures sound { IsSoundBest W H goal.now progress.new.best }
+    ensures looks { Looks (NoListedUnder W H goal.now search.now.preset) progress.old progress.new }
 {
     let own = OwnGrids::of(goal.source());
     let walk = Walk::new(goal, search.tables.walk, own.view());
-    look_by(&walk, search, goal, scratch, best, steps);
+    look_by(&walk, search, goal, scratch, progress);
 }
 
 /// Looks at each candidate that the preset lists for a source, and keeps the best of them and of
@@ -87,37 +80,35 @@ fn look_by_own_grids<const W: usize, const H: usize, L>(
 /// unless there is a settled one or fits were looked at before: the candidates are then looked at
 /// under the limit of the best.
 #[inline(never)]
-pub fn look_at_fitted_and_listed<const W: usize, const H: usize, L>(
+pub fn look_at_fitted_and_listed<const W: usize, const H: usize>(
     search: &Search<W, H>,
     goal: &Goal<W, H>,
     scratch: &mut FitScratch,
-    best: &mut Best,
-    steps: &mut Steps<L>,
+    progress: &mut Progress,
 )
-    requires { IsSoundBest W H goal.now best.old }
-    ensures sound { IsSoundBest W H goal.now best.new }
-    ensures looks { Looks (NoListedUnder W H goal.now search.now.preset) best.old best.new }
-    ensures never_falls { steps.old ≤ steps.new }
+    requires { IsSoundBest W H goal.now progress.old.best }
+    ensures sound { IsSoundBest W H goal.now progress.new.best }
+    ensures looks { Looks (NoListedUnder W H goal.now search.now.preset) progress.old progress.new }
 {
-    if lists_none_under(search.preset, best.error) {
+    if lists_none_under(search.preset, progress.best.error) {
         return;
     }
     match search.tables.walk.grids_for(goal.source()) {
         Some(grids) => {
             let walk = Walk::new(goal, search.tables.walk, grids);
-            look_by(&walk, search, goal, scratch, best, steps);
+            look_by(&walk, search, goal, scratch, progress);
         }
-        None => look_by_own_grids(search, goal, scratch, best, steps),
+        None => look_by_own_grids(search, goal, scratch, progress),
     }
 }
 
 // Whether no candidate has an error under the limit, by grids that are made for the source.
 #[inline(never)]
-fn is_none_under_by_own_grids<const W: usize, const H: usize, L>(
+fn is_none_under_by_own_grids<const W: usize, const H: usize>(
     search: &Search<W, H>,
     goal: &Goal<W, H>,
     limit: u32,
-    steps: &mut Steps<L>,
+    steps: &mut Steps<()>,
 ) -> bool
     ensures none_under { IsTrue result ↔ NoListedUnder W H goal.now search.now.preset limit }
     ensures never_falls { steps.old ≤ steps.new }
@@ -129,11 +120,11 @@ fn is_none_under_by_own_grids<const W: usize, const H: usize, L>(
 /// Whether no candidate that the preset lists for a source has an error under the limit. The walk
 /// ends after the first that has one.
 #[inline(never)]
-pub fn is_none_under<const W: usize, const H: usize, L>(
+pub fn is_none_under<const W: usize, const H: usize>(
     search: &Search<W, H>,
     goal: &Goal<W, H>,
     limit: u32,
-    steps: &mut Steps<L>,
+    steps: &mut Steps<()>,
 ) -> bool
     ensures none_under { IsTrue result ↔ NoListedUnder W H goal.now search.now.preset limit }
     ensures never_falls { steps.old ≤ steps.new }

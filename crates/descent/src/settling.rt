@@ -4,22 +4,22 @@ ghost use Rattle.astc_model.specs.Blocks.{Legal};
 ghost use Rattle.astc_model.specs.Limits.{most_block_error};
 ghost use Rattle.astc_model.specs.declared.block.Block.TheVariants.{Coded as CodedBlock};
 ghost use Rattle.texel_error.specs.Goals.{error_to};
-ghost use Rattle.listed_walk.specs.Looks.{IsSoundBest};
+ghost use Rattle.listed_walk.specs.Looks.{IsSoundBest, Improves};
 ghost use Rattle.descent.specs.Least.{NoChangeIsBetter};
 
 use crate::circle::descend;
 use astc_model::Coded;
 use error_state::ErrorState;
-use listed_walk::Best;
+use listed_walk::{Best, Progress};
 use texel_error::{Goal, Steps};
 
 // Changes single integers of a coded block until no change of one gives a smaller error; the block
 // and its error.
 #[inline(never)]
-fn descended<const W: usize, const H: usize, L>(
+fn descended<const W: usize, const H: usize>(
     coded: &Coded,
     goal: &Goal<W, H>,
-    steps: &mut Steps<L>,
+    steps: &mut Steps<()>,
 ) -> (Coded, u32)
     requires { Legal W H (CodedBlock coded.now) }
     ensures legal { Legal W H (CodedBlock result.0) }
@@ -38,25 +38,19 @@ fn descended<const W: usize, const H: usize, L>(
 
 /// Changes single integers of the best block until no change of one gives a smaller error; a
 /// settled block stays unchanged, and without a block, nothing is changed.
-pub fn settle<const W: usize, const H: usize, L>(
-    goal: &Goal<W, H>,
-    best: &mut Best,
-    steps: &mut Steps<L>,
-)
-    requires { IsSoundBest W H goal.now best.old }
-    ensures sound { IsSoundBest W H goal.now best.new }
-    ensures settled { IfSome best.new.block (λ coded. IsTrue best.new.settled) }
-    ensures lower { best.new.error ≤ best.old.error }
-    ensures none_yet { best.new.block ≡ None → best.new ≡ best.old }
-    ensures none { best.old.block ≡ None → best.new ≡ best.old }
-    ensures never_falls { steps.old ≤ steps.new }
+pub fn settle<const W: usize, const H: usize>(goal: &Goal<W, H>, progress: &mut Progress)
+    requires { IsSoundBest W H goal.now progress.old.best }
+    ensures sound { IsSoundBest W H goal.now progress.new.best }
+    ensures settled { IfSome progress.new.best.block (λ coded. IsTrue progress.new.best.settled) }
+    ensures improves { Improves progress.old progress.new }
+    ensures none { progress.old.best.block ≡ None → progress.new.best ≡ progress.old.best }
 {
-    if best.settled {
+    if progress.best.settled {
         return;
     }
-    if let Some(coded) = &best.block {
-        let (settled, error) = descended(coded, goal, steps);
-        *best = Best {
+    if let Some(coded) = &progress.best.block {
+        let (settled, error) = descended(coded, goal, &mut progress.steps);
+        progress.best = Best {
             block: Some(settled),
             error,
             settled: true,
@@ -66,23 +60,20 @@ pub fn settle<const W: usize, const H: usize, L>(
 
 /// Changes single integers of a block until no change of one gives a smaller error, and keeps it if
 /// it is better than the best one.
-pub fn look_at_settled<const W: usize, const H: usize, L>(
+pub fn look_at_settled<const W: usize, const H: usize>(
     coded: &Coded,
     goal: &Goal<W, H>,
-    best: &mut Best,
-    steps: &mut Steps<L>,
+    progress: &mut Progress,
 )
     requires legal { Legal W H (CodedBlock coded.now) }
-    requires sound { IsSoundBest W H goal.now best.old }
-    ensures sound { IsSoundBest W H goal.now best.new }
-    ensures no_worse { best.new.error ≤ error_to W H goal.now (CodedBlock coded.now) }
-    ensures lower { best.new.error ≤ best.old.error }
-    ensures none_yet { best.new.block ≡ None → best.new ≡ best.old }
-    ensures never_falls { steps.old ≤ steps.new }
+    requires sound { IsSoundBest W H goal.now progress.old.best }
+    ensures sound { IsSoundBest W H goal.now progress.new.best }
+    ensures no_worse { progress.new.best.error ≤ error_to W H goal.now (CodedBlock coded.now) }
+    ensures improves { Improves progress.old progress.new }
 {
-    let (settled, error) = descended(coded, goal, steps);
-    if error < best.error {
-        *best = Best {
+    let (settled, error) = descended(coded, goal, &mut progress.steps);
+    if error < progress.best.error {
+        progress.best = Best {
             block: Some(settled),
             error,
             settled: true,

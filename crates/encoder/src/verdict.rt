@@ -38,11 +38,11 @@ impl Verdict {
 }
 
 // Whether no listed block, including the mean constant, has an error under this one.
-fn meets_listed<const W: usize, const H: usize, L>(
+fn meets_listed<const W: usize, const H: usize>(
     search: &Search<W, H>,
     goal: &Goal<W, H>,
     error: u32,
-    steps: &mut Steps<L>,
+    steps: &mut Steps<()>,
 ) -> bool
     ensures { IsTrue result ↔ NoneUnder W H goal.now.flavour goal.now.weights goal.now.places error
         (listed W H search.now.preset goal.now.places) }

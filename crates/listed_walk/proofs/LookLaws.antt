@@ -19,75 +19,83 @@ use Rattle.candidates.specs.Walks.{IsOver, NoneOfWalkUnder}
 use Rattle.recipes.specs.Shapes.{shapes}
 use Rattle.texel_error.specs.Goals.{GoalView, error_to}
 use Rattle.listed_walk.specs.declared.best.Best.{Best}
+use Rattle.listed_walk.specs.declared.best.Progress.{Progress}
 use Rattle.listed_walk.specs.declared.kinds.ModeEntry.{ModeEntry}
 use Rattle.listed_walk.specs.Kinds.{level_with, AreEntries}
 use Rattle.listed_walk.specs.Looks.{IsSoundBest, LooksTo, Looks, taken, IsOverAt, NoModeUnder, NoEntryUnder, NoShapeUnder}
 use Rattle.listed_walk.proofs.KindLaws.{entry_with, none_of_level}
 
 -- nothing was looked at
-pub looks_none : (target : ℕ) (none : ℕ → Type 0) (best : Best) → none best.error
-    → LooksTo target none best best
-looks_none target none best h = record {
+pub looks_none : (target : ℕ) (none : ℕ → Type 0) (old : Progress) → none old.best.error
+    → LooksTo target none old old
+looks_none target none old h = record {
   lower = omega arith;
   least = λ reaches. h;
   kept = λ k.
       refl;
   none_yet = λ k. refl;
+  rises = omega arith;
 }
 
 -- some, then others
-pub looks_then : (target : ℕ) (first second both : ℕ → Type 0) (a b c : Best)
+pub looks_then : (target : ℕ) (first second both : ℕ → Type 0) (a b c : Progress)
     → LooksTo target first a b → LooksTo target second b c
     → ((e f : ℕ) → f ≤ e → first e → first f)
     → ((e : ℕ) → first e → second e → both e) → ((e : ℕ) → both e → first e)
     → ((e : ℕ) → both e → second e) → LooksTo target both a c
 looks_then target first second both a b c before after less join left right = record {
   lower = omega (arith, before.lower, after.lower);
-  least = λ reaches. join c.error
-      (less b.error c.error after.lower (before.least (omega (arith, reaches, after.lower))))
+  least = λ reaches. join c.best.error
+      (less b.best.error c.best.error after.lower
+      (before.least (omega (arith, reaches, after.lower))))
       (after.least reaches);
   kept = λ none.
-      let same : b ≡ a = before.kept (left a.error none) in
-      let last : second b.error = subst second (ap (λ best. best.error) (sym same))
-      (right a.error none) in
+      let same : b.best ≡ a.best = before.kept (left a.best.error none) in
+      let last : second b.best.error = subst second (ap (λ best. best.error) (sym same))
+      (right a.best.error none) in
       after.kept last ∙ same;
   none_yet = λ none.
-      let same : c ≡ b = after.none_yet none in
+      let same : c.best ≡ b.best = after.none_yet none in
       same ∙ before.none_yet (sym (ap (λ best. best.block) same) ∙ none);
+  rises = omega (arith, before.rises, after.rises);
 }
 
 -- the same blocks, said otherwise
-pub looks_as : (target : ℕ) (none other : ℕ → Type 0) (a b : Best) → LooksTo target none a b
+pub looks_as : (target : ℕ) (none other : ℕ → Type 0) (a b : Progress) → LooksTo target none a b
     → ((e : ℕ) → none e → other e) → ((e : ℕ) → other e → none e)
     → LooksTo target other a b
 looks_as target none other a b is there back =
     record {
       lower = is.lower;
-      least = λ reaches. there b.error (is.least reaches);
+      least = λ reaches. there b.best.error (is.least reaches);
       kept = λ h.
-          is.kept (back a.error h);
+          is.kept (back a.best.error h);
       none_yet = is.none_yet;
+      rises = is.rises;
     }
 
 -- one is under the target, so that the others need not be looked at
-pub looks_early : (target : ℕ) (none other : ℕ → Type 0) (a b : Best) → LooksTo target none a b
-    → b.error < target → ((e : ℕ) → other e → none e) → LooksTo target other a b
+pub looks_early : (target : ℕ) (none other : ℕ → Type 0) (a b : Progress)
+    → LooksTo target none a b
+    → b.best.error < target → ((e : ℕ) → other e → none e) → LooksTo target other a b
 looks_early target none other a b is early back =
     record {
       lower = is.lower;
       least = λ reaches. absurd (omega (arith, reaches, early));
-      kept = λ h. is.kept (back a.error h);
+      kept = λ h. is.kept (back a.best.error h);
       none_yet = is.none_yet;
+      rises = is.rises;
     }
 
 -- all of them were looked at, whatever the target
-pub looks_all : (target : ℕ) (none : ℕ → Type 0) (a b : Best) → Looks none a b
+pub looks_all : (target : ℕ) (none : ℕ → Type 0) (a b : Progress) → Looks none a b
     → LooksTo target none a b
 looks_all target none a b is = record {
   lower = is.lower;
   least = λ reaches. is.least (omega arith);
   kept = is.kept;
   none_yet = is.none_yet;
+  rises = is.rises;
 }
 
 -- ---- one block
@@ -112,20 +120,34 @@ module _ (w h : ℕ) (goal : GoalView) (coded : CodedFields) (best : Best) where
       (error_to w h goal (Coded coded)) error refl is in
       record { legal = legal; exact = both.0; settled = λ settled. absurd (cc) }
 
-  pub taken_looks : (found : Option ℕ) → found ≡ under best.error (error_to w h goal (Coded coded))
-      → Looks (λ e. e ≤ error_to w h goal (Coded coded)) best (taken best coded found)
-  taken_looks None is =
-      looks_none 0 (λ e. e ≤ error_to w h goal (Coded coded)) best
-      (over_is (nat_lt (error_to w h goal (Coded coded)) best.error) best.error
-      (error_to w h goal (Coded coded)) refl is)
-  taken_looks (Some error) is =
-      let both = under_is (nat_lt (error_to w h goal (Coded coded)) best.error) best.error
-      (error_to w h goal (Coded coded)) error refl is in
+module _ (w h : ℕ) (goal : GoalView) (coded : CodedFields) (old new : Progress)
+    (rises : old.steps ≤ new.steps) where
+  pub taken_looks : (found : Option ℕ)
+      → found ≡ under old.best.error (error_to w h goal (Coded coded))
+      → new.best ≡ taken old.best coded found
+      → Looks (λ e. e ≤ error_to w h goal (Coded coded)) old new
+  taken_looks None is same =
+      let over = over_is (nat_lt (error_to w h goal (Coded coded)) old.best.error) old.best.error
+      (error_to w h goal (Coded coded)) refl is in
+      let error : new.best.error ≡ old.best.error = ap (λ best. best.error) same in
       record {
-        lower = omega (arith, both.0, both.1);
-        least = λ reaches. omega (arith, both.0);
+        lower = omega (arith, error);
+        least = λ reaches. omega (arith, error, over);
+        kept = λ over. same;
+        none_yet = λ none. same;
+        rises = rises;
+      }
+  taken_looks (Some error) is same =
+      let both = under_is (nat_lt (error_to w h goal (Coded coded)) old.best.error) old.best.error
+      (error_to w h goal (Coded coded)) error refl is in
+      let now : new.best.error ≡ error = ap (λ best. best.error) same in
+      let block : new.best.block ≡ Some coded = ap (λ best. best.block) same in
+      record {
+        lower = omega (arith, both.0, both.1, now);
+        least = λ reaches. omega (arith, both.0, now);
         kept = λ over. absurd (omega (arith, both.1, over));
-        none_yet = λ none. absurd (cc);
+        none_yet = λ none. let bad : Some coded ≡ None = sym block ∙ none in absurd (cc);
+        rises = rises;
       }
 
 module _ (w h : ℕ) (goal : GoalView) where
@@ -169,7 +191,7 @@ module _ (w h : ℕ) (goal : GoalView) where
 
   -- one mode more
   pub entry_more : (shape : Recipe) (entries : List ModeEntry) (n : ℕ) (last : ModeEntry)
-      (target : ℕ) (a b c : Best) → n < length entries
+      (target : ℕ) (a b c : Progress) → n < length entries
       → LooksTo target (NoEntryUnder w h goal shape entries n) a b
       → Looks (λ e. IsOverAt w h goal shape (get_or entries n last).number e) b c
       → LooksTo target (NoEntryUnder w h goal shape entries (n + 1)) a c
@@ -221,7 +243,7 @@ module _ (w h : ℕ) (goal : GoalView) where
   -- ---- the shapes of a preset
 
   -- one shape more
-  pub shape_more : (shapes : List Recipe) (n : ℕ) (last : Recipe) (target : ℕ) (a b c : Best)
+  pub shape_more : (shapes : List Recipe) (n : ℕ) (last : Recipe) (target : ℕ) (a b c : Progress)
       → n < length shapes → LooksTo target (NoShapeUnder w h goal shapes n) a b
       → LooksTo target (NoModeUnder w h goal (get_or shapes n last) 2048) b c
       → LooksTo target (NoShapeUnder w h goal shapes (n + 1)) a c

@@ -8,6 +8,7 @@ use Rattle.astc_model.specs.Shapes.{grid_fault, weight_count}
 use Rattle.astc_model.specs.Recipes.{with_mode}
 use Rattle.astc_model.specs.Candidates.{candidate}
 use Rattle.astc_model.specs.declared.block.Block.TheVariants.{Coded}
+use Rattle.astc_model.specs.declared.block.Coded.{Coded as CodedFields}
 use Rattle.std.proofs.lemmas.List.{get_or-map}
 use Rattle.std.proofs.lemmas.List.FromFn.{get_or-map-range_with_len, length-map-range_with_len}
 use Rattle.astc_model.specs.Bounds.{part_map}
@@ -35,11 +36,15 @@ use Rattle.texel_error.specs.Goals.{GoalView, error_to}
 use Rattle.texel_error.specs.Limited.{under}
 use Rattle.texel_error.specs.declared.drawn.Outline.{Outline}
 use Rattle.listed_walk.specs.declared.best.Best.{Best}
+use Rattle.listed_walk.specs.declared.best.Progress.{Progress}
 use Rattle.listed_walk.specs.declared.views.CandidateView.{CandidateView}
 use Rattle.listed_walk.specs.Looks.{IsOverAt, IsSoundBest, Looks, taken}
-use Rattle.listed_walk.specs.Shared.{level_ends, planes_of}
+use Rattle.listed_walk.specs.Kinds.{IsEntry}
+use Rattle.listed_walk.specs.Shared.{IsSourceShape, IsDrawing, level_ends, planes_of}
 use Rattle.listed_walk.specs.Views.{AreItsOrigins, IsCandidateView, block_of, plane_targets}
 use Rattle.listed_walk.proofs.CandidateLaws.{palette_at, palette_at-is, few_weights, no_fault, planes_are, its_candidate, legal_of, values_are, drawn_from, can_draw}
+use Rattle.block_mode.proofs.ModeLaws.{decoded_mode-range}
+use Rattle.listed_walk.proofs.KindLaws.{mode_of_entry}
 use Rattle.listed_walk.proofs.LookLaws.{looks_as, over_of, of_over, taken_sound, taken_looks}
 
 -- two planes have a channel
@@ -254,9 +259,12 @@ module _ (w h : ℕ) (goal : GoalView) (view : CandidateView) (is : IsCandidateV
             is.layout.mapped.fields is.own refl
             (palette_at-is w h goal view.layout.now.shape.now view.entry.level)) sound
 
+    module _ (old new : Progress) (rises : old.steps ≤ new.steps) (found : Option ℕ)
+        (exact : found ≡ under old.best.error (error_to w h goal (Coded (block_of w h goal view))))
+        (same : new.best ≡ taken old.best (block_of w h goal view) found)
+      where
         pub looks_at_it : Looks
-            (λ e. IsOverAt w h goal view.layout.now.shape.now view.entry.number e)
-            best (taken best (block_of w h goal view) found)
+            (λ e. IsOverAt w h goal view.layout.now.shape.now view.entry.number e) old new
         looks_at_it =
             let made : candidate w h (with_mode view.entry.number view.layout.now.shape.now)
             goal.places
@@ -267,24 +275,30 @@ module _ (w h : ℕ) (goal : GoalView) (view : CandidateView) (is : IsCandidateV
             (palette_at-is w h goal view.layout.now.shape.now view.entry.level)
             in
             looks_as 0 (λ e. e ≤ error_to w h goal (Coded (block_of w h goal view)))
-            (λ e. IsOverAt w h goal view.layout.now.shape.now view.entry.number e) best
-            (taken best (block_of w h goal view) found)
-            (taken_looks w h goal (block_of w h goal view) best found exact)
+            (λ e. IsOverAt w h goal view.layout.now.shape.now view.entry.number e) old new
+            (taken_looks w h goal (block_of w h goal view) old new rises found exact same)
             (λ e over. over_of w h goal view.layout.now.shape.now view.entry.number
             (Some (Coded (block_of w h goal view))) e made over)
             (λ e over. of_over w h goal view.layout.now.shape.now view.entry.number
             (Some (Coded (block_of w h goal view))) e made over)
 
-        -- if the candidate is not under the best one
-        pub none_found : is_some found ≡ false
-            → Looks (λ e. IsOverAt w h goal view.layout.now.shape.now view.entry.number e) best best
-        none_found none = by found refl none
-          where
-            by : (other : Option ℕ) → found ≡ other → is_some other ≡ false
-                → Looks (λ e. IsOverAt w h goal view.layout.now.shape.now view.entry.number e) best
-                best
-            by None same none =
-                subst (λ o. Looks (λ e.
-                IsOverAt w h goal view.layout.now.shape.now view.entry.number e)
-                best (taken best (block_of w h goal view) o)) same looks_at_it
-            by (Some error) same none = absurd (cc)
+-- none is found, so that none is taken
+pub none_taken : (best : Best) (coded : CodedFields) (found : Option ℕ) → is_some found ≡ false
+    → best ≡ taken best coded found
+none_taken best coded None none = refl
+none_taken best coded (Some error) none = absurd (cc)
+
+-- what is known of the parts of a view
+pub view_is : (w h : ℕ) (goal : GoalView) (view : CandidateView)
+    → IsSourceShape w h goal view.layout.now → IsEntry w h view.layout.now.shape.now view.entry
+    → IsDrawing w h goal view.layout.now.shape.now
+    (level_ends w h goal view.layout.now.shape.now view.entry.level) view.drawing.now
+    → view.mode ≡ view.entry.mode → IsCandidateView w h goal view
+view_is w h goal view layout entry drawing same = record {
+  layout = layout;
+  entry = entry;
+  own = rw same (mode_of_entry w h view.layout.now.shape.now view.entry entry);
+  range = rw same
+      (decoded_mode-range view.entry.number view.entry.mode entry.small entry.known);
+  drawing = drawing;
+}

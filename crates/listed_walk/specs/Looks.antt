@@ -12,6 +12,7 @@ use Rattle.astc_model.specs.declared.block.Block.TheVariants.{Coded}
 use Rattle.candidates.specs.Walks.{IsOver, NoCandidateUnder}
 use Rattle.texel_error.specs.Goals.{GoalView, error_to}
 use Rattle.listed_walk.specs.declared.best.Best.{Best}
+use Rattle.listed_walk.specs.declared.best.Progress.{Progress}
 use Rattle.listed_walk.specs.declared.kinds.ModeEntry.{ModeEntry}
 
 -- no change of one integer of a block gives an error under e
@@ -32,16 +33,25 @@ abbrev pub taken : Best → CodedFields → Option ℕ → Best
 taken best coded None = best
 taken best coded (Some error) = record { block = Some coded; error = error; settled = false }
 
+-- A search went on: its best block is no worse, and the counter of its steps never falls. The
+-- search has a block if it had one.
+pub record Improves (old new : Progress) : Type 0 where
+  pub lower : new.best.error ≤ old.best.error
+  pub none_yet : new.best.block ≡ None → new.best ≡ old.best
+  pub rises : old.steps ≤ new.steps
+
 -- The best block after some blocks were tried; `none e` says that none of them has an error under
--- e. If the best error is below the target, some of them may not have been tried.
-pub record LooksTo (target : ℕ) (none : ℕ → Type 0) (old new : Best) : Type 0 where
-  pub lower : new.error ≤ old.error
-  pub least : target ≤ new.error → none new.error
-  pub kept : none old.error → new ≡ old
-  pub none_yet : new.block ≡ None → new ≡ old
+-- e. If the best error is below the target, some of them may not have been tried. The counter of
+-- steps never falls.
+pub record LooksTo (target : ℕ) (none : ℕ → Type 0) (old new : Progress) : Type 0 where
+  pub lower : new.best.error ≤ old.best.error
+  pub least : target ≤ new.best.error → none new.best.error
+  pub kept : none old.best.error → new.best ≡ old.best
+  pub none_yet : new.best.block ≡ None → new.best ≡ old.best
+  pub rises : old.steps ≤ new.steps
 
 -- all of them were looked at
-abbrev pub Looks : (ℕ → Type 0) → Best → Best → Type 0
+abbrev pub Looks : (ℕ → Type 0) → Progress → Progress → Type 0
 Looks none old new = LooksTo 0 none old new
 
 -- the candidate of a shape with this mode has no error under e

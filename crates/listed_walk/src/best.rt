@@ -45,19 +45,38 @@ impl Best {
     }
 }
 
+/// How far a search is: the best block so far, and how many texels were evaluated for it.
+#[derive(Drop)]
+pub struct Progress {
+    pub best: Best,
+    pub steps: Steps<()>,
+}
+
+impl Progress {
+    /// No block, the error that the first one has to be under, and no steps.
+    pub fn under(error: u32) -> Progress
+        ensures best { result.best ≡ record { block = None; error = error; settled = false } }
+        ensures steps { result.steps ≡ 0 }
+    {
+        Progress {
+            best: Best::under(error),
+            steps: Steps::<()>::new(),
+        }
+    }
+}
+
 /// Tries a legal block: if its error is smaller, it is the new best block.
-pub fn look<const W: usize, const H: usize, L>(
+pub fn look<const W: usize, const H: usize>(
     coded: Coded,
     goal: &Goal<W, H>,
-    best: &mut Best,
-    steps: &mut Steps<L>,
+    progress: &mut Progress,
 )
     requires legal { Legal W H (CodedBlock coded) }
-    requires sound { IsSoundBest W H goal.now best.old }
-    ensures sound { IsSoundBest W H goal.now best.new }
-    ensures looks { Looks (λ e. e ≤ error_to W H goal.now (CodedBlock coded)) best.old best.new }
-    ensures never_falls { steps.old ≤ steps.new }
+    requires sound { IsSoundBest W H goal.now progress.old.best }
+    ensures sound { IsSoundBest W H goal.now progress.new.best }
+    ensures looks { Looks (λ e. e ≤ error_to W H goal.now (CodedBlock coded)) progress.old
+        progress.new }
 {
-    let under = coded_error_under(&coded, goal, best.error, steps);
-    best.take(coded, under);
+    let under = coded_error_under(&coded, goal, progress.best.error, &mut progress.steps);
+    progress.best.take(coded, under);
 }

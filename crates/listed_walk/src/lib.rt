@@ -15,7 +15,7 @@ mod targets;
 mod views;
 mod walk;
 
-pub use best::{Best, look};
+pub use best::{Best, Progress, look};
 pub use grids::Grids;
 pub use known::{OwnGrids, WalkView};
 pub use tables::{WalkArrays, WalkTables};

@@ -5,17 +5,16 @@ ghost use Rattle.astc_model.specs.declared.block.Block.TheVariants.{Coded as Cod
 ghost use Rattle.texel_error.specs.Goals.{GoalView, error_to};
 ghost use Rattle.texel_error.specs.Limited.{under};
 ghost use Rattle.listed_walk.specs.Grids.{AreGrids};
-ghost use Rattle.listed_walk.specs.Kinds.{IsEntry};
 ghost use Rattle.listed_walk.specs.Looks.{IsSoundBest, Looks, LooksTo, IsOverAt, NoneOfUnder, NoModeUnder, NoListedUnder};
 ghost use Rattle.listed_walk.specs.Views.{AreItsOrigins, IsCandidateView, block_of};
 ghost use Rattle.listed_walk.specs.Partitionings.{IsPartitioned};
-ghost use Rattle.listed_walk.specs.Shared.{IsSourceShape, IsDrawing, IsCutoff, level_ends};
+ghost use Rattle.listed_walk.specs.Shared.{IsSourceShape, IsCutoff};
 ghost use Rattle.listed_walk.specs.Groups.{AreModes, IsGroup, IsDrawnGroup};
 
-use crate::best::Best;
+use crate::best::Progress;
 use crate::grids::Grids;
 use crate::groups::{DrawnGroup, ShapeGroup};
-use crate::kinds::{KindModes, ModeEntry, ModeGroups, keep_kind, modes_in};
+use crate::kinds::{KindModes, ModeGroups, keep_kind, modes_in};
 use crate::known::WalkView;
 use crate::levels::{Drawing, DrawnLanes, SourceShape, lines_at, targets_between};
 use crate::origins::GridOrigins;
@@ -113,12 +112,12 @@ impl<'a, const W: usize, const H: usize> Walk<'a, W, H> {
 
     // The error of the candidate if it is under the limit, from the origins of its weights.
     #[inline(always)]
-    fn drawn_from<L>(
+    fn drawn_from(
         &self,
         view: &CandidateView,
         origins: &GridOrigins,
         limit: u32,
-        steps: &mut Steps<L>,
+        steps: &mut Steps<()>,
     ) -> Option<u32>
         requires view { IsCandidateView W H self.now view.now }
         requires origins { AreItsOrigins W H self.now view.now origins.now.groups }
@@ -159,7 +158,7 @@ impl<'a, const W: usize, const H: usize> Walk<'a, W, H> {
     // The error of the candidate if it is under the limit and the table of origins ends before its
     // grid. A separate function, since its origins take two kilobytes of stack.
     #[inline(never)]
-    fn error_of_new<L>(&self, view: &CandidateView, limit: u32, steps: &mut Steps<L>) -> Option<u32>
+    fn error_of_new(&self, view: &CandidateView, limit: u32, steps: &mut Steps<()>) -> Option<u32>
         requires { IsCandidateView W H self.now view.now }
         ensures exact { result ≡ under limit
             (error_to W H self.now (CodedBlock (block_of W H self.now view.now))) }
@@ -171,7 +170,7 @@ impl<'a, const W: usize, const H: usize> Walk<'a, W, H> {
 
     // The error of the candidate if it is under the limit. The candidate is not made for it.
     #[inline(always)]
-    fn error_under<L>(&self, view: &CandidateView, limit: u32, steps: &mut Steps<L>) -> Option<u32>
+    fn error_under(&self, view: &CandidateView, limit: u32, steps: &mut Steps<()>) -> Option<u32>
         requires { IsCandidateView W H self.now view.now }
         ensures exact { result ≡ under limit
             (error_to W H self.now (CodedBlock (block_of W H self.now view.now))) }
@@ -184,76 +183,50 @@ impl<'a, const W: usize, const H: usize> Walk<'a, W, H> {
     }
 
     // Tries a candidate, and makes it if its error is under the best one.
-    #[inline(always)]
-    fn look_at_view<L>(&self, view: &CandidateView, best: &mut Best, steps: &mut Steps<L>)
+    fn look_at_candidate(&self, view: &CandidateView, progress: &mut Progress)
         requires view { IsCandidateView W H self.now view.now }
-        requires sound { IsSoundBest W H self.now best.old }
-        ensures sound { IsSoundBest W H self.now best.new }
+        requires sound { IsSoundBest W H self.now progress.old.best }
+        ensures sound { IsSoundBest W H self.now progress.new.best }
         ensures looks { Looks (λ e.
             IsOverAt W H self.now view.now.layout.now.shape.now view.now.entry.number e)
-            best.old best.new }
-        ensures never_falls { steps.old ≤ steps.new }
+            progress.old progress.new }
     {
-        let under = self.error_under(view, best.error, steps);
+        let under = self.error_under(view, progress.best.error, &mut progress.steps);
         if under.is_some() {
-            best.take(self.drawn_candidate(view), under);
+            progress.best.take(self.drawn_candidate(view), under);
         }
-    }
-
-    // Looks at the candidate of a shape with a mode, from what it takes to draw those of its level.
-    fn look_at_candidate<L>(
-        &self,
-        layout: &SourceShape,
-        entry: ModeEntry,
-        drawing: &Drawing,
-        best: &mut Best,
-        steps: &mut Steps<L>,
-    )
-        requires layout { IsSourceShape W H self.now layout.now }
-        requires entry { IsEntry W H layout.now.shape.now entry }
-        requires drawing { IsDrawing W H self.now layout.now.shape.now
-            (level_ends W H self.now layout.now.shape.now entry.level) drawing.now }
-        requires sound { IsSoundBest W H self.now best.old }
-        ensures sound { IsSoundBest W H self.now best.new }
-        ensures looks { Looks (λ e. IsOverAt W H self.now layout.now.shape.now entry.number e)
-            best.old best.new }
-        ensures never_falls { steps.old ≤ steps.new }
-    {
-        let view = CandidateView {
-            layout,
-            entry,
-            mode: entry.mode,
-            drawing,
-        };
-        self.look_at_view(&view, best, steps);
     }
 
     // Looks at the candidates of a group, until one is under the target, or the rest are plainly
     // not under the best one.
-    fn look_at_drawn<L>(
+    fn look_at_drawn<'b>(
         &self,
-        layout: &SourceShape,
-        drawn: &DrawnGroup,
+        layout: &'b SourceShape<'b>,
+        drawn: &'b DrawnGroup<'b>,
         cutoff: &mut Cutoff,
         target: u32,
-        best: &mut Best,
-        steps: &mut Steps<L>,
+        progress: &mut Progress,
     )
         requires layout { IsSourceShape W H self.now layout.now }
         requires drawn { IsDrawnGroup W H self.now layout.now drawn.now }
-        requires cutoff { IsCutoff self.now layout.now best.old.error cutoff.old }
-        requires sound { IsSoundBest W H self.now best.old }
-        ensures cutoff { IsCutoff self.now layout.now best.new.error cutoff.new }
-        ensures sound { IsSoundBest W H self.now best.new }
+        requires cutoff { IsCutoff self.now layout.now progress.old.best.error cutoff.old }
+        requires sound { IsSoundBest W H self.now progress.old.best }
+        ensures cutoff { IsCutoff self.now layout.now progress.new.best.error cutoff.new }
+        ensures sound { IsSoundBest W H self.now progress.new.best }
         ensures looks { LooksTo target
-            (NoneOfUnder W H self.now layout.now.shape.now drawn.now.group.entries.now) best.old
-            best.new }
-        ensures never_falls { steps.old ≤ steps.new }
+            (NoneOfUnder W H self.now layout.now.shape.now drawn.now.group.entries.now) progress.old
+            progress.new }
     {
         for entry in drawn.group.entries {
-            self.look_at_candidate(layout, *entry, &drawn.drawing, best, steps);
-            *cutoff = lowered(*cutoff, best.error);
-            if best.error < target {
+            let view = CandidateView {
+                layout,
+                entry: *entry,
+                mode: entry.mode,
+                drawing: &drawn.drawing,
+            };
+            self.look_at_candidate(&view, progress);
+            *cutoff = lowered(*cutoff, progress.best.error);
+            if progress.best.error < target {
                 return;
             }
             if cutoff.is_over(drawn.distances) {
@@ -264,26 +237,24 @@ impl<'a, const W: usize, const H: usize> Walk<'a, W, H> {
 
     // Looks at the candidates of a shape with the modes of a group, unless these are plainly not
     // under the best one.
-    fn look_at_group<L>(
+    fn look_at_group(
         &self,
         own: &ShapeGroup,
         lanes: &mut DrawnLanes,
         cutoff: &mut Cutoff,
         target: u32,
-        best: &mut Best,
-        steps: &mut Steps<L>,
+        progress: &mut Progress,
     )
         requires layout { IsSourceShape W H self.now own.now.layout.now }
         requires group { IsGroup W H own.now.layout.now.shape.now own.now.group }
         requires some { 0 < length own.now.group.entries.now }
-        requires cutoff { IsCutoff self.now own.now.layout.now best.old.error cutoff.old }
-        requires sound { IsSoundBest W H self.now best.old }
-        ensures cutoff { IsCutoff self.now own.now.layout.now best.new.error cutoff.new }
-        ensures sound { IsSoundBest W H self.now best.new }
+        requires cutoff { IsCutoff self.now own.now.layout.now progress.old.best.error cutoff.old }
+        requires sound { IsSoundBest W H self.now progress.old.best }
+        ensures cutoff { IsCutoff self.now own.now.layout.now progress.new.best.error cutoff.new }
+        ensures sound { IsSoundBest W H self.now progress.new.best }
         ensures looks { LooksTo target
             (NoneOfUnder W H self.now own.now.layout.now.shape.now own.now.group.entries.now)
-            best.old best.new }
-        ensures never_falls { steps.old ≤ steps.new }
+            progress.old progress.new }
     {
         let (layout, group) = (own.layout, own.group);
         let lines = lines_at(layout, group.level, cutoff.distances, self.goal);
@@ -297,29 +268,27 @@ impl<'a, const W: usize, const H: usize> Walk<'a, W, H> {
             distances: lines.distances,
             drawing: Drawing { lanes, ends },
         };
-        self.look_at_drawn(layout, &drawn, cutoff, target, best, steps);
+        self.look_at_drawn(layout, &drawn, cutoff, target, progress);
     }
 
     // Looks at the candidates of a shape with these modes, until one is under the target.
-    fn look_at_groups<L>(
+    fn look_at_groups(
         &self,
         layout: &SourceShape,
         modes: &ModeGroups,
         lanes: &mut DrawnLanes,
         target: u32,
-        best: &mut Best,
-        steps: &mut Steps<L>,
+        progress: &mut Progress,
     )
         requires layout { IsSourceShape W H self.now layout.now }
         requires modes { AreModes W H layout.now.shape.now modes.now }
-        requires sound { IsSoundBest W H self.now best.old }
-        ensures sound { IsSoundBest W H self.now best.new }
-        ensures looks { LooksTo target (NoModeUnder W H self.now layout.now.shape.now 2048) best.old
-            best.new }
-        ensures never_falls { steps.old ≤ steps.new }
+        requires sound { IsSoundBest W H self.now progress.old.best }
+        ensures sound { IsSoundBest W H self.now progress.new.best }
+        ensures looks { LooksTo target (NoModeUnder W H self.now layout.now.shape.now 2048)
+            progress.old progress.new }
     {
         let weight = weight_of(self.goal.weights(), layout.shape.plane, layout.sums);
-        let mut cutoff = Cutoff::of(weight, best.error);
+        let mut cutoff = Cutoff::of(weight, progress.best.error);
         let mut at = 0;
         while at < modes.entries.len() {
             let group = modes.group(at);
@@ -327,8 +296,8 @@ impl<'a, const W: usize, const H: usize> Walk<'a, W, H> {
                 layout: &*layout,
                 group,
             };
-            self.look_at_group(&own, lanes, &mut cutoff, target, best, steps);
-            if best.error < target {
+            self.look_at_group(&own, lanes, &mut cutoff, target, progress);
+            if progress.best.error < target {
                 return;
             }
             at += group.entries.len();
@@ -337,25 +306,23 @@ impl<'a, const W: usize, const H: usize> Walk<'a, W, H> {
 
     // Looks at the candidates of a shape with the modes of its kind, which is kept, until one is
     // under the target.
-    fn look_in_kept_kind<L>(
+    fn look_in_kept_kind(
         &self,
         layout: &SourceShape,
         kind: &mut Option<KindModes<W, H>>,
         lanes: &mut DrawnLanes,
         target: u32,
-        best: &mut Best,
-        steps: &mut Steps<L>,
+        progress: &mut Progress,
     )
         requires layout { IsSourceShape W H self.now layout.now }
-        requires sound { IsSoundBest W H self.now best.old }
-        ensures sound { IsSoundBest W H self.now best.new }
-        ensures looks { LooksTo target (NoModeUnder W H self.now layout.now.shape.now 2048) best.old
-            best.new }
-        ensures never_falls { steps.old ≤ steps.new }
+        requires sound { IsSoundBest W H self.now progress.old.best }
+        ensures sound { IsSoundBest W H self.now progress.new.best }
+        ensures looks { LooksTo target (NoModeUnder W H self.now layout.now.shape.now 2048)
+            progress.old progress.new }
     {
         keep_kind(kind, layout.shape);
         if let Some(made) = kind {
-            self.look_at_groups(layout, &made.modes(), lanes, target, best, steps);
+            self.look_at_groups(layout, &made.modes(), lanes, target, progress);
         }
     }
 
@@ -363,74 +330,69 @@ impl<'a, const W: usize, const H: usize> Walk<'a, W, H> {
     // under the target. `kinds` is room for the kind, which shapes of one kind share, or empty:
     // then the kind is made for this shape alone.
     #[inline(never)]
-    fn look_at_new_kind<L>(
+    fn look_at_new_kind(
         &self,
         layout: &SourceShape,
         kinds: &mut [Option<KindModes<W, H>>],
         lanes: &mut DrawnLanes,
         target: u32,
-        best: &mut Best,
-        steps: &mut Steps<L>,
+        progress: &mut Progress,
     )
         requires layout { IsSourceShape W H self.now layout.now }
-        requires sound { IsSoundBest W H self.now best.old }
-        ensures sound { IsSoundBest W H self.now best.new }
-        ensures looks { LooksTo target (NoModeUnder W H self.now layout.now.shape.now 2048) best.old
-            best.new }
-        ensures never_falls { steps.old ≤ steps.new }
+        requires sound { IsSoundBest W H self.now progress.old.best }
+        ensures sound { IsSoundBest W H self.now progress.new.best }
+        ensures looks { LooksTo target (NoModeUnder W H self.now layout.now.shape.now 2048)
+            progress.old progress.new }
     {
         match kinds.first_mut() {
-            Some(kind) => self.look_in_kept_kind(layout, kind, lanes, target, best, steps),
+            Some(kind) => self.look_in_kept_kind(layout, kind, lanes, target, progress),
             None => {
                 let made = KindModes::<W, H>::of(layout.shape);
-                self.look_at_groups(layout, &made.modes(), lanes, target, best, steps);
+                self.look_at_groups(layout, &made.modes(), lanes, target, progress);
             }
         }
     }
 
     // Looks at the candidates of a shape with each mode, until one is under the target.
-    fn look_at_modes<L>(
+    fn look_at_modes(
         &self,
         layout: &SourceShape,
         kinds: &mut [Option<KindModes<W, H>>],
         lanes: &mut DrawnLanes,
         target: u32,
-        best: &mut Best,
-        steps: &mut Steps<L>,
+        progress: &mut Progress,
     )
         requires layout { IsSourceShape W H self.now layout.now }
-        requires sound { IsSoundBest W H self.now best.old }
-        ensures sound { IsSoundBest W H self.now best.new }
-        ensures looks { LooksTo target (NoModeUnder W H self.now layout.now.shape.now 2048) best.old
-            best.new }
-        ensures never_falls { steps.old ≤ steps.new }
+        requires sound { IsSoundBest W H self.now progress.old.best }
+        ensures sound { IsSoundBest W H self.now progress.new.best }
+        ensures looks { LooksTo target (NoModeUnder W H self.now layout.now.shape.now 2048)
+            progress.old progress.new }
     {
         match self.modes_for(layout.shape) {
-            Some(modes) => self.look_at_groups(layout, &modes, lanes, target, best, steps),
-            None => self.look_at_new_kind(layout, kinds, lanes, target, best, steps),
+            Some(modes) => self.look_at_groups(layout, &modes, lanes, target, progress),
+            None => self.look_at_new_kind(layout, kinds, lanes, target, progress),
         }
     }
 
     // Looks at the candidates of a shape with each mode. Then none of them is under the best one,
     // or the best one is under the target.
-    fn look_at_shape<L>(
+    fn look_at_shape(
         &self,
         shape: &Recipe,
         scratch: &mut WalkScratch,
         kinds: &mut [Option<KindModes<W, H>>],
         target: u32,
-        best: &mut Best,
-        steps: &mut Steps<L>,
+        progress: &mut Progress,
     )
         requires shape { IsShape shape.now }
         requires kept { IfSome scratch.old.kept (IsPartitioned W H self.now) }
-        requires sound { IsSoundBest W H self.now best.old }
+        requires sound { IsSoundBest W H self.now progress.old.best }
         ensures kept { IfSome scratch.new.kept (IsPartitioned W H self.now) }
-        ensures sound { IsSoundBest W H self.now best.new }
-        ensures looks { LooksTo target (NoModeUnder W H self.now shape.now 2048) best.old best.new }
-        ensures never_falls { steps.old ≤ steps.new }
+        ensures sound { IsSoundBest W H self.now progress.new.best }
+        ensures looks { LooksTo target (NoModeUnder W H self.now shape.now 2048) progress.old
+            progress.new }
     {
-        if best.error == 0 {
+        if progress.best.error == 0 {
             return;
         }
         keep_partitioning(&mut scratch.kept, shape, self.goal);
@@ -445,30 +407,29 @@ impl<'a, const W: usize, const H: usize> Walk<'a, W, H> {
                 ideals: ideals.as_slice(),
                 sums: &own.sums,
             };
-            self.look_at_modes(&layout, kinds, &mut scratch.lanes, target, best, steps);
+            self.look_at_modes(&layout, kinds, &mut scratch.lanes, target, progress);
         }
     }
 
     // Looks at the candidates that a preset lists, until one is under the target.
     #[inline(never)]
-    fn look_over<L>(
+    fn look_over(
         &self,
         preset: Preset,
         kinds: &mut [Option<KindModes<W, H>>],
         target: u32,
-        best: &mut Best,
-        steps: &mut Steps<L>,
+        progress: &mut Progress,
     )
-        requires { IsSoundBest W H self.now best.old }
-        ensures sound { IsSoundBest W H self.now best.new }
-        ensures looks { LooksTo target (NoListedUnder W H self.now preset) best.old best.new }
-        ensures never_falls { steps.old ≤ steps.new }
+        requires { IsSoundBest W H self.now progress.old.best }
+        ensures sound { IsSoundBest W H self.now progress.new.best }
+        ensures looks { LooksTo target (NoListedUnder W H self.now preset) progress.old
+            progress.new }
     {
         walks_meet_candidates();
         let mut scratch = WalkScratch::new();
         for shape in shapes_of(preset) {
-            self.look_at_shape(shape, &mut scratch, kinds, target, best, steps);
-            if best.error < target {
+            self.look_at_shape(shape, &mut scratch, kinds, target, progress);
+            if progress.best.error < target {
                 return;
             }
         }
@@ -477,50 +438,43 @@ impl<'a, const W: usize, const H: usize> Walk<'a, W, H> {
     // Looks at the candidates that a preset lists, with room for a kind: 20 KB of stack, which a
     // walk that knows its kinds needn't clear.
     #[inline(never)]
-    fn look_with_room<L>(&self, preset: Preset, target: u32, best: &mut Best, steps: &mut Steps<L>)
-        requires { IsSoundBest W H self.now best.old }
-        ensures sound { IsSoundBest W H self.now best.new }
-        ensures looks { LooksTo target (NoListedUnder W H self.now preset) best.old best.new }
-        ensures never_falls { steps.old ≤ steps.new }
+    fn look_with_room(&self, preset: Preset, target: u32, progress: &mut Progress)
+        requires { IsSoundBest W H self.now progress.old.best }
+        ensures sound { IsSoundBest W H self.now progress.new.best }
+        ensures looks { LooksTo target (NoListedUnder W H self.now preset) progress.old
+            progress.new }
     {
         let mut kinds = [None];
-        self.look_over(preset, &mut kinds, target, best, steps);
-    }
-
-    // Looks at the candidates that a preset lists, until one is under the target.
-    fn look_until<L>(&self, preset: Preset, target: u32, best: &mut Best, steps: &mut Steps<L>)
-        requires { IsSoundBest W H self.now best.old }
-        ensures sound { IsSoundBest W H self.now best.new }
-        ensures looks { LooksTo target (NoListedUnder W H self.now preset) best.old best.new }
-        ensures never_falls { steps.old ≤ steps.new }
-    {
-        if self.kinds.is_empty() {
-            self.look_with_room(preset, target, best, steps);
-        } else {
-            self.look_over(preset, &mut [], target, best, steps);
-        }
+        self.look_over(preset, &mut kinds, target, progress);
     }
 
     /// Tries each candidate that a preset lists for the source, and keeps the best of them and of
-    /// the block before: a candidate is kept if its error is less than that of all before it.
-    pub fn look_at_listed<L>(&self, preset: Preset, best: &mut Best, steps: &mut Steps<L>)
-        requires { IsSoundBest W H self.now best.old }
-        ensures sound { IsSoundBest W H self.now best.new }
-        ensures looks { Looks (NoListedUnder W H self.now preset) best.old best.new }
-        ensures never_falls { steps.old ≤ steps.new }
+    /// the block before: a candidate is kept if its error is less than that of all before it. The
+    /// walk ends after the first that is under the target: with the target 0, none is.
+    pub fn look_at_listed(&self, preset: Preset, target: u32, progress: &mut Progress)
+        requires { IsSoundBest W H self.now progress.old.best }
+        ensures sound { IsSoundBest W H self.now progress.new.best }
+        ensures looks { LooksTo target (NoListedUnder W H self.now preset) progress.old
+            progress.new }
     {
-        self.look_until(preset, 0, best, steps);
+        if self.kinds.is_empty() {
+            self.look_with_room(preset, target, progress);
+        } else {
+            self.look_over(preset, &mut [], target, progress);
+        }
     }
 
     /// Whether no candidate that a preset lists for the source has an error under the limit. The
     /// walk ends after the first that has one.
-    pub fn is_none_under<L>(&self, preset: Preset, limit: u32, steps: &mut Steps<L>) -> bool
+    pub fn is_none_under(&self, preset: Preset, limit: u32, steps: &mut Steps<()>) -> bool
         ensures none_under { IsTrue result ↔ NoListedUnder W H self.now preset limit }
         ensures never_falls { steps.old ≤ steps.new }
     {
-        let mut best = Best::under(limit);
-        self.look_until(preset, limit, &mut best, steps);
-        best.error == limit
+        let mut progress = Progress::under(limit);
+        std::mem::swap(&mut progress.steps, steps);
+        self.look_at_listed(preset, limit, &mut progress);
+        std::mem::swap(&mut progress.steps, steps);
+        progress.best.error == limit
     }
 }
 

@@ -9,15 +9,14 @@ use error_state::ErrorState;
 use texel_error::{Goal, Steps};
 
 /// The block with a change of a pair that gives a smaller error, if there is one.
-pub fn better_block<const W: usize, const H: usize, L>(
+pub fn better_block<const W: usize, const H: usize>(
     coded: &Coded,
     goal: &Goal<W, H>,
-    steps: &mut Steps<L>,
+    steps: &mut Steps<()>,
 ) -> Option<Coded>
     requires { Legal W H (CodedBlock coded.now) }
     ensures finds { FindsBetter W H goal.now.flavour goal.now.weights goal.now.places
         (CodedBlock coded.now) result }
-    ensures never_falls { steps.old ≤ steps.new }
 {
     let state = ErrorState::<W, H>::start(coded, goal.flavour(), goal.weights(), goal.source());
     match state.better_pair(steps) {

@@ -12,19 +12,18 @@ ghost use Rattle.pair_descent.specs.Pairs.{FindsPair, StaysSettled};
 use crate::least::better_block;
 use astc_model::{Block, ChannelWeights, Coded, Flavour, Preset, Source};
 use descent::{FitScratch, Search, SearchView, bytes_of, fit_scratch, settle, settled_best};
-use listed_walk::{Best, look};
+use listed_walk::{Best, Progress, look};
 use texel_error::{Goal, Steps};
 
 // The best block with a change of a pair that gives a smaller error, if there is one.
 #[inline(never)]
-fn better_than<const W: usize, const H: usize, L>(
+fn better_than<const W: usize, const H: usize>(
     goal: &Goal<W, H>,
     best: &Best,
-    steps: &mut Steps<L>,
+    steps: &mut Steps<()>,
 ) -> Option<Coded>
     requires { IsSoundBest W H goal.now best.now }
     ensures finds { FindsPair W H goal.now best.now.block result }
-    ensures never_falls { steps.old ≤ steps.new }
 {
     match &best.block {
         Some(coded) => better_block(coded, goal, steps),
@@ -34,38 +33,31 @@ fn better_than<const W: usize, const H: usize, L>(
 
 // Changes pairs of the best block's integers, and settles it again, until no change of one gives a
 // smaller error.
-fn settle_by_pairs<const W: usize, const H: usize, L>(
-    goal: &Goal<W, H>,
-    best: &mut Best,
-    steps: &mut Steps<L>,
-)
-    requires sound { IsSoundBest W H goal.now best.old }
-    requires settled { IfSome best.old.block (λ coded. IsTrue best.old.settled) }
-    ensures kept { StaysSettled W H goal.now best.old best.new }
-    ensures pairs { FindsPair W H goal.now best.new.block None }
-    ensures never_falls { steps.old ≤ steps.new }
+fn settle_by_pairs<const W: usize, const H: usize>(goal: &Goal<W, H>, progress: &mut Progress)
+    requires sound { IsSoundBest W H goal.now progress.old.best }
+    requires settled { IfSome progress.old.best.block (λ coded. IsTrue progress.old.best.settled) }
+    ensures kept { StaysSettled W H goal.now progress.old.best progress.new.best }
+    ensures pairs { FindsPair W H goal.now progress.new.best.block None }
 {
-    'rounds: while let Some(better) = better_than(goal, best, steps) {
-        look(better, goal, best, steps);
-        settle(goal, best, steps);
+    'rounds: while let Some(better) = better_than(goal, &progress.best, &mut progress.steps) {
+        look(better, goal, progress);
+        settle(goal, progress);
     }
 }
 
 // The same under the preset pairs, and nothing under the others.
-fn settle_its_pairs<const W: usize, const H: usize, L>(
+fn settle_its_pairs<const W: usize, const H: usize>(
     preset: Preset,
     goal: &Goal<W, H>,
-    best: &mut Best,
-    steps: &mut Steps<L>,
+    progress: &mut Progress,
 )
-    requires sound { IsSoundBest W H goal.now best.old }
-    requires settled { IfSome best.old.block (λ coded. IsTrue best.old.settled) }
-    ensures kept { StaysSettled W H goal.now best.old best.new }
-    ensures pairs { preset ≡ PairsPreset → FindsPair W H goal.now best.new.block None }
-    ensures never_falls { steps.old ≤ steps.new }
+    requires sound { IsSoundBest W H goal.now progress.old.best }
+    requires settled { IfSome progress.old.best.block (λ coded. IsTrue progress.old.best.settled) }
+    ensures kept { StaysSettled W H goal.now progress.old.best progress.new.best }
+    ensures pairs { preset ≡ PairsPreset → FindsPair W H goal.now progress.new.best.block None }
 {
     match preset {
-        Preset::Pairs => settle_by_pairs(goal, best, steps),
+        Preset::Pairs => settle_by_pairs(goal, progress),
         Preset::Flat => {}
         Preset::Quick => {}
         Preset::Medium => {}
@@ -98,10 +90,9 @@ pub fn packed_block<const W: usize, const H: usize>(
         result.0 result.1 }
     ensures small { result.1 ≤ most_block_error }
 {
-    let mut steps = Steps::<()>::new();
-    let mut best = settled_best(search, goal, proposals, scratch, &mut steps);
-    settle_its_pairs(search.preset, goal, &mut best, &mut steps);
-    (bytes_of(goal, &best), best.error)
+    let mut progress = settled_best(search, goal, proposals, scratch);
+    settle_its_pairs(search.preset, goal, &mut progress);
+    (bytes_of(goal, &progress.best), progress.best.error)
 }
 
 /// The settled block under the preset pairs, without fits as proposals. The call takes no memory:

@@ -6,4 +6,4 @@ returns-clause-settled g c =
     let to = rw c.new-goal.ensures at c.bytes_of.ensures.settled in
     to c.args.preset c.args.proposals.now
     (plain_settled g.row.W g.row.H _ _ _ _
-    (rw c.new-goal.ensures at c.settled_best-best.ensures.best))
+    (rw c.new-goal.ensures at c.settled_best-progress.ensures.best))

@@ -7,6 +7,7 @@ use Rattle.listed_walk.specs.Shared.{IsDrawing, level_ends, layout_weight}
 use Rattle.listed_walk.specs.Looks.{NoEntryUnder, NoneOfUnder}
 use Rattle.listed_walk.proofs.LookLaws.{looks_as, looks_early, entry_more}
 use Rattle.listed_walk.proofs.GroupLaws.{group_over, looks_whole}
+use Rattle.listed_walk.proofs.ViewLaws.{view_is}
 use Rattle.listed_walk.proofs.walk.Walk.look_at_drawn.Goals as goal
 
 pub look_at_candidate-requires : goal.look_at_candidate-requires
@@ -16,17 +17,13 @@ look_at_candidate-requires g c =
     let n : ℕ = c.loop-entry.entry-index in (
       lit< tt,
       (
-        c.requires.layout,
-        (
-          c.requires.drawn.group.each n _ c.loop-entry-test.true,
-          (
-            subst (λ (level : Level). IsDrawing g.row.W g.row.H c.args.self.now shape
-                (level_ends g.row.W g.row.H c.args.self.now shape level) drawn.drawing)
-                (sym (c.requires.drawn.group.same n _ c.loop-entry-test.true))
-                c.requires.drawn.drawing,
-            c.loop-entry.invariant.sound,
-          ),
-        ),
+        view_is g.row.W g.row.H c.args.self.now _ c.requires.layout
+            (c.requires.drawn.group.each n _ c.loop-entry-test.true)
+            (subst (λ (level : Level). IsDrawing g.row.W g.row.H c.args.self.now shape
+            (level_ends g.row.W g.row.H c.args.self.now shape level) drawn.drawing)
+            (sym (c.requires.drawn.group.same n _ c.loop-entry-test.true))
+            c.requires.drawn.drawing) refl,
+        c.loop-entry.invariant.sound,
       ),
     )
 
@@ -41,11 +38,10 @@ loop-entry-preserved g c = record {
   looks = entry_more g.row.W g.row.H c.args.self.now c.args.layout.now.shape.now
       c.args.drawn.now.group.entries.now c.loop-entry.entry-index _ c.args.target _ _ _
       c.loop-entry-test.true c.loop-entry.invariant.looks c.look_at_candidate.ensures.looks;
-  rises = omega (arith, c.loop-entry.invariant.rises, c.look_at_candidate.ensures.never_falls);
 }
 
-pub returns-then-best-target-clause-looks : goal.returns-then-best-target-clause-looks
-returns-then-best-target-clause-looks g c =
+pub returns-then-progress-target-clause-looks : goal.returns-then-progress-target-clause-looks
+returns-then-progress-target-clause-looks g c =
     let aim : GoalView = c.args.self.now in
     let shape : Recipe = c.args.layout.now.shape.now in
     let entries : List ModeEntry = c.args.drawn.now.group.entries.now in

@@ -36,9 +36,9 @@ returns-then-is_over-clause-looks g c =
     let group = c.args.own.now.group in
     let lines = rw c.self.view_is at c.lines_at-lines.ensures in
     looks_none c.args.target (NoneOfUnder g.row.W g.row.H aim layout.shape.now group.entries.now)
-    c.args.best.now
+    c.args.progress.now
     (group_over g.row.W g.row.H aim layout group c.lines_at-lines.result.distances
-    c.args.cutoff.now.limit c.args.best.now.error c.requires.layout c.requires.group
+    c.args.cutoff.now.limit c.args.progress.now.best.error c.requires.layout c.requires.group
     lines.floor
     (λ error under. c.if-is_over.ensures.floor
     (layout_weight aim layout) error c.requires.cutoff.weight under refl)

@@ -15,11 +15,10 @@ loop-at-preserved g c = record {
       c.group-group.ensures g.row.W g.row.H c.args.self.now c.args.layout.now.shape.now
       c.args.target _ _ _
       c.loop-at.invariant.looks c.look_at_group.ensures.looks;
-  rises = omega (arith, c.loop-at.invariant.rises, c.look_at_group.ensures.never_falls);
 }
 
-pub returns-then-best-target-clause-looks : goal.returns-then-best-target-clause-looks
-returns-then-best-target-clause-looks g c =
+pub returns-then-progress-target-clause-looks : goal.returns-then-progress-target-clause-looks
+returns-then-progress-target-clause-looks g c =
     let aim : GoalView = c.args.self.now in
     let shape : Recipe = c.args.layout.now.shape.now in
     let entries : List ModeEntry = c.args.modes.now.entries.now in

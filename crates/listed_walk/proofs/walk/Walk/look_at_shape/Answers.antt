@@ -3,9 +3,9 @@ use Rattle.listed_walk.specs.Looks.{NoModeUnder}
 use Rattle.listed_walk.proofs.LookLaws.{looks_none, over_zero}
 use Rattle.listed_walk.proofs.walk.Walk.look_at_shape.Goals as goal
 
-pub returns-then-best-eq0-clause-looks : goal.returns-then-best-eq0-clause-looks
-returns-then-best-eq0-clause-looks g c =
+pub returns-then-progress-eq0-clause-looks : goal.returns-then-progress-eq0-clause-looks
+returns-then-progress-eq0-clause-looks g c =
     looks_none c.args.target (NoModeUnder g.row.W g.row.H c.args.self.now c.args.shape.now 2048)
-    c.args.best.now
+    c.args.progress.now
     (λ mode below. over_zero g.row.W g.row.H c.args.self.now c.args.shape.now mode
-    c.args.best.now.error (omega (arith, c.if-best-eq0.true)))
+    c.args.progress.now.best.error (omega (arith, c.if-progress-eq0.true)))

@@ -1,4 +1,4 @@
-use Rattle.std.proofs.Common.{ℕ, List, arith}
+use Rattle.std.proofs.Common.{ℕ, List}
 use Rattle.astc_model.specs.declared.recipe.Recipe.{Recipe}
 use Rattle.texel_error.specs.Goals.{GoalView}
 use Rattle.listed_walk.specs.Looks.{NoShapeUnder, NoListedUnder}
@@ -12,7 +12,6 @@ loop-shape-preserved g c = record {
   looks = shape_more g.row.W g.row.H c.args.self.now c.shapes_of-shape-items.result.now
       c.loop-shape.shape-index _ c.args.target _ _ _
       c.loop-shape-test.true c.loop-shape.invariant.looks c.look_at_shape.ensures.looks;
-  rises = omega (arith, c.loop-shape.invariant.rises, c.look_at_shape.ensures.never_falls);
 }
 
 pub returns-clause-looks : goal.returns-clause-looks
