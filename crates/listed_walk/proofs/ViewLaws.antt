@@ -64,23 +64,23 @@ points_few points planes some few =
 
 module _ (w h : ℕ) (goal : GoalView) (view : CandidateView) (is : IsCandidateView w h goal view)
   where
-    pub its_fault : grid_fault w h view.mode ≡ None
-    its_fault = no_fault w h goal view.layout.now.shape.now view.entry view.mode
+    pub its_fault : grid_fault w h view.entry.mode ≡ None
+    its_fault = no_fault w h goal view.layout.now.shape.now view.entry view.entry.mode
         (palette_at w h goal view.layout.now.shape.now view.entry.level) is.layout.sides
         is.layout.mapped.fields is.own refl
         (palette_at-is w h goal view.layout.now.shape.now view.entry.level)
 
-    pub its_few_weights : weight_count view.mode ≤ 64
-    its_few_weights = few_weights w h goal view.layout.now.shape.now view.entry view.mode
+    pub its_few_weights : weight_count view.entry.mode ≤ 64
+    its_few_weights = few_weights w h goal view.layout.now.shape.now view.entry view.entry.mode
         (palette_at w h goal view.layout.now.shape.now view.entry.level) is.layout.sides
         is.layout.mapped.fields is.own refl
         (palette_at-is w h goal view.layout.now.shape.now view.entry.level)
 
     -- if the mode has a second plane, so have the blocks of its shape
-    its_planes : 1 < view.mode.planes → planes_of view.layout.now.shape.now ≡ 2
+    its_planes : 1 < view.entry.mode.planes → planes_of view.layout.now.shape.now ≡ 2
     its_planes below =
-        let same : view.mode.planes ≡ planes_of view.layout.now.shape.now =
-        planes_are w h goal view.layout.now.shape.now view.entry view.mode
+        let same : view.entry.mode.planes ≡ planes_of view.layout.now.shape.now =
+        planes_are w h goal view.layout.now.shape.now view.entry view.entry.mode
         (palette_at w h goal view.layout.now.shape.now view.entry.level) is.layout.sides
         is.layout.mapped.fields is.own refl
         (palette_at-is w h goal view.layout.now.shape.now view.entry.level)
@@ -89,14 +89,14 @@ module _ (w h : ℕ) (goal : GoalView) (view : CandidateView) (is : IsCandidateV
 
     -- its grid
     module _ (grid : List (Option ℕ))
-        (grid_is : grid ≡ grid_places w h view.mode.across view.mode.down goal.places) where
-      pub all_points : length grid ≡ view.mode.across * view.mode.down
+        (grid_is : grid ≡ grid_places w h view.entry.mode.across view.entry.mode.down goal.places) where
+      pub all_points : length grid ≡ view.entry.mode.across * view.entry.mode.down
       all_points = ap length grid_is
-          ∙ length-grid_places w h view.mode.across view.mode.down goal.places
+          ∙ length-grid_places w h view.entry.mode.across view.entry.mode.down goal.places
 
       pub few_points : length grid ≤ 64
       few_points = rw all_points
-          (points_few (view.mode.across * view.mode.down) view.mode.planes is.range.some_plane
+          (points_few (view.entry.mode.across * view.entry.mode.down) view.entry.mode.planes is.range.some_plane
           its_few_weights)
 
     -- ---- what it is drawn from
@@ -104,33 +104,33 @@ module _ (w h : ℕ) (goal : GoalView) (view : CandidateView) (is : IsCandidateV
     -- the points around a texel are in its grid
     around_within : (p : ℕ) → p < w * h
         → All (λ point. point.0 < length
-        (grid_places w h view.mode.across view.mode.down goal.places))
-        (factors w h view.mode.across view.mode.down (p % w) (p / w))
+        (grid_places w h view.entry.mode.across view.entry.mode.down goal.places))
+        (factors w h view.entry.mode.across view.entry.mode.down (p % w) (p / w))
     around_within p below =
-        let fits : IsFittingGrid w h view.mode = grid_fault-none w h view.mode its_fault in
-        rw (length-grid_places w h view.mode.across view.mode.down goal.places)
-        (in_grid w h view.mode.across view.mode.down (p % w)
+        let fits : IsFittingGrid w h view.entry.mode = grid_fault-none w h view.entry.mode its_fault in
+        rw (length-grid_places w h view.entry.mode.across view.entry.mode.down goal.places)
+        (in_grid w h view.entry.mode.across view.entry.mode.down (p % w)
         (p / w) is.layout.sides is.range.some_columns fits.columns is.range.some_rows
         fits.rows
         (column_below w h p is.layout.sides) (row_below w h p is.layout.sides below))
 
     -- the places that its weights come from
     its_origins : (p : ℕ) → p < w * h
-        → AreOrigins (w * h) (origins_in w h view.mode.across view.mode.down
-        (grid_places w h view.mode.across view.mode.down goal.places) p)
+        → AreOrigins (w * h) (origins_in w h view.entry.mode.across view.entry.mode.down
+        (grid_places w h view.entry.mode.across view.entry.mode.down goal.places) p)
     its_origins p below =
         are_origins (w * h) (omega (arith, below))
-        (grid_places w h view.mode.across view.mode.down goal.places)
-        (grid_within w h view.mode.across view.mode.down (w * h) goal.places refl)
-        (factors w h view.mode.across view.mode.down (p % w) (p / w)) (around_within p below)
-        (factors-small w h view.mode.across view.mode.down (p % w) (p / w))
-        (factors-total w h view.mode.across view.mode.down (p % w) (p / w))
+        (grid_places w h view.entry.mode.across view.entry.mode.down goal.places)
+        (grid_within w h view.entry.mode.across view.entry.mode.down (w * h) goal.places refl)
+        (factors w h view.entry.mode.across view.entry.mode.down (p % w) (p / w)) (around_within p below)
+        (factors-small w h view.entry.mode.across view.entry.mode.down (p % w) (p / w))
+        (factors-total w h view.entry.mode.across view.entry.mode.down (p % w) (p / w))
 
     -- its targets
     target_at : (plane p : ℕ) → p < w * h
         → get_or
-        (map (nearest_weight_value view.mode.level) (plane_targets w h goal view plane)) p 0
-        ≡ nearest_weight_value view.mode.level
+        (map (nearest_weight_value view.entry.mode.level) (plane_targets w h goal view plane)) p 0
+        ≡ nearest_weight_value view.entry.mode.level
         (place_target view.layout.now.shape.now.plane plane
         (part_map w h view.layout.now.shape.now.parts view.layout.now.shape.now.seed)
         (level_ends w h goal view.layout.now.shape.now view.entry.level) goal.places p)
@@ -139,26 +139,26 @@ module _ (w h : ℕ) (goal : GoalView) (view : CandidateView) (is : IsCandidateV
         let f : ℕ → ℕ = place_target view.layout.now.shape.now.plane plane
         (part_map w h view.layout.now.shape.now.parts view.layout.now.shape.now.seed)
         (level_ends w h goal view.layout.now.shape.now view.entry.level) goal.places in
-        get_or-map (nearest_weight_value view.mode.level) (plane_targets w h goal view plane) p 0 0
+        get_or-map (nearest_weight_value view.entry.mode.level) (plane_targets w h goal view plane) p 0 0
         (omega (arith, length-map-range_with_len f 0 (w * h)))
-        ∙ ap (nearest_weight_value view.mode.level)
+        ∙ ap (nearest_weight_value view.entry.mode.level)
         (get_or-map-range_with_len f 0 (w * h) p p 0 below (omega arith))
 
     module _ (groups : List GroupOrigins) (are : AreItsOrigins w h goal view groups) where
       its_numerator : (plane : ℕ) (points : DrawnPoints)
           → ((p : ℕ) → p < w * h → get_or (values_of points) p 0
-          ≡ get_or (map (nearest_weight_value view.mode.level)
+          ≡ get_or (map (nearest_weight_value view.entry.mode.level)
           (plane_targets w h goal view plane)) p 0)
-          → plane < view.mode.planes → (p : ℕ) → p < w * h
+          → plane < view.entry.mode.planes → (p : ℕ) → p < w * h
           → share_sum (values_of points)
           (group_pairs (slice_index_or groups (p / 4) no_origins) (p % 4))
-          ≡ numerator_at w h (block_of w h goal view) view.mode plane p
+          ≡ numerator_at w h (block_of w h goal view) view.entry.mode plane p
       unfolding numerator target_map
       its_numerator plane points own there p below =
           let targets : List ℕ = plane_targets w h goal view plane in
           let grid : List (Option ℕ) =
-          grid_places w h view.mode.across view.mode.down goal.places in
-          let around : List (ℕ × ℕ) = factors w h view.mode.across view.mode.down (p % w) (p / w) in
+          grid_places w h view.entry.mode.across view.entry.mode.down goal.places in
+          let around : List (ℕ × ℕ) = factors w h view.entry.mode.across view.entry.mode.down (p % w) (p / w) in
           let many : length targets ≡ w * h =
           length-map-range_with_len (place_target view.layout.now.shape.now.plane plane
           (part_map w h view.layout.now.shape.now.parts view.layout.now.shape.now.seed)
@@ -168,29 +168,29 @@ module _ (w h : ℕ) (goal : GoalView) (view : CandidateView) (is : IsCandidateV
           (are.each (p / 4) (omega arith)).shares (p % 4) (omega arith) (omega arith)
           (values_of points)
           ∙ ap (λ q. share_sum (values_of points)
-          (origins_in w h view.mode.across view.mode.down grid q)) at
+          (origins_in w h view.entry.mode.across view.entry.mode.down grid q)) at
           ∙ share_same (w * h) (values_of points)
-          (map (nearest_weight_value view.mode.level) targets)
-          (origins_in w h view.mode.across view.mode.down grid p) (its_origins p below).within own
-          ∙ origins_sum view.mode.level is.range.levels targets grid
-          (grid_within w h view.mode.across view.mode.down (length targets) goal.places many)
+          (map (nearest_weight_value view.entry.mode.level) targets)
+          (origins_in w h view.entry.mode.across view.entry.mode.down grid p) (its_origins p below).within own
+          ∙ origins_sum view.entry.mode.level is.range.levels targets grid
+          (grid_within w h view.entry.mode.across view.entry.mode.down (length targets) goal.places many)
           around (around_within p below)
           ∙ ap (λ values. share_sum values around)
-          (values_are w h goal view.layout.now.shape.now view.entry view.mode
+          (values_are w h goal view.layout.now.shape.now view.entry view.entry.mode
           (palette_at w h goal view.layout.now.shape.now view.entry.level) is.layout.sides
           is.layout.mapped.fields is.own refl
           (palette_at-is w h goal view.layout.now.shape.now view.entry.level) plane there
-          targets refl grid refl (plane_values view.mode.level grid targets) refl)
+          targets refl grid refl (plane_values view.entry.mode.level grid targets) refl)
 
       module _ (outline : Outline)
           (colours_are : outline.colours.now ≡ view.drawing.now.lanes.now.colours)
           (groups_are : outline.groups.now ≡ groups)
           (first : (p : ℕ) → p < w * h → get_or (values_of outline.first) p 0
-          ≡ nearest_weight_value view.mode.level
+          ≡ nearest_weight_value view.entry.mode.level
           (get_or view.drawing.now.lanes.now.first p 0))
           (second : 0 < view.layout.now.shape.now.plane → (p : ℕ) → p < w * h
           → get_or (values_of outline.second) p 0
-          ≡ nearest_weight_value view.mode.level
+          ≡ nearest_weight_value view.entry.mode.level
           (get_or view.drawing.now.lanes.now.second p 0))
           (have_first : HaveValues (w * h) outline.first)
           (have_second : HaveValues (w * h) outline.second) where
@@ -205,34 +205,34 @@ module _ (w h : ℕ) (goal : GoalView) (view : CandidateView) (is : IsCandidateV
 
         pub it_can_be_drawn : CanDraw w h outline
         it_can_be_drawn =
-            can_draw w h goal view.layout.now.shape.now view.entry view.mode
+            can_draw w h goal view.layout.now.shape.now view.entry view.entry.mode
             (palette_at w h goal view.layout.now.shape.now view.entry.level) is.layout.sides
             is.layout.mapped.fields is.own refl
             (palette_at-is w h goal view.layout.now.shape.now view.entry.level)
-            outline own_colours (grid_places w h view.mode.across view.mode.down goal.places)
+            outline own_colours (grid_places w h view.entry.mode.across view.entry.mode.down goal.places)
             (subst (AreItsOrigins w h goal view) (sym groups_are) are) have_first have_second
 
         its_numerators : (plane : ℕ) (points : DrawnPoints) (targets : List ℕ)
             → ((p : ℕ) → p < w * h → get_or (values_of points) p 0
-            ≡ nearest_weight_value view.mode.level (get_or targets p 0))
+            ≡ nearest_weight_value view.entry.mode.level (get_or targets p 0))
             → AreTargetsTo view.layout.now.shape.now.plane plane
             (part_map w h view.layout.now.shape.now.parts view.layout.now.shape.now.seed)
             (level_ends w h goal view.layout.now.shape.now view.entry.level) goal.places (w * h)
             targets
-            → plane < view.mode.planes
-            → AreNumeratorsOf w h outline points (block_of w h goal view) view.mode plane
+            → plane < view.entry.mode.planes
+            → AreNumeratorsOf w h outline points (block_of w h goal view) view.entry.mode plane
         its_numerators plane points targets own are_targets there = λ p below.
             ap (λ gs. share_sum (values_of points)
             (group_pairs (slice_index_or gs (p / 4) no_origins) (p % 4))) groups_are
             ∙ its_numerator plane points
             (λ q small. own q small
-            ∙ ap (nearest_weight_value view.mode.level) (are_targets.each q small)
+            ∙ ap (nearest_weight_value view.entry.mode.level) (are_targets.each q small)
             ∙ sym (target_at plane q small)) there p below
 
         pub it_is_drawn_from : outline.plane ≡ view.layout.now.shape.now.plane
             → IsDrawnFrom w h goal.flavour outline (block_of w h goal view)
         it_is_drawn_from plane_is =
-            drawn_from w h goal view.layout.now.shape.now view.entry view.mode
+            drawn_from w h goal view.layout.now.shape.now view.entry view.entry.mode
             (palette_at w h goal view.layout.now.shape.now view.entry.level) is.layout.sides
             is.layout.mapped.fields is.own refl
             (palette_at-is w h goal view.layout.now.shape.now view.entry.level)
@@ -254,7 +254,7 @@ module _ (w h : ℕ) (goal : GoalView) (view : CandidateView) (is : IsCandidateV
             → IsSoundBest w h goal (taken best (block_of w h goal view) found)
         keeps_sound sound =
             taken_sound w h goal (block_of w h goal view) best found exact
-            (legal_of w h goal view.layout.now.shape.now view.entry view.mode
+            (legal_of w h goal view.layout.now.shape.now view.entry view.entry.mode
             (palette_at w h goal view.layout.now.shape.now view.entry.level) is.layout.sides
             is.layout.mapped.fields is.own refl
             (palette_at-is w h goal view.layout.now.shape.now view.entry.level)) sound
@@ -269,7 +269,7 @@ module _ (w h : ℕ) (goal : GoalView) (view : CandidateView) (is : IsCandidateV
             let made : candidate w h (with_mode view.entry.number view.layout.now.shape.now)
             goal.places
             ≡ Some (Coded (block_of w h goal view)) =
-            its_candidate w h goal view.layout.now.shape.now view.entry view.mode
+            its_candidate w h goal view.layout.now.shape.now view.entry view.entry.mode
             (palette_at w h goal view.layout.now.shape.now view.entry.level) is.layout.sides
             is.layout.mapped.fields is.own refl
             (palette_at-is w h goal view.layout.now.shape.now view.entry.level)
@@ -293,12 +293,11 @@ pub view_is : (w h : ℕ) (goal : GoalView) (view : CandidateView)
     → IsSourceShape w h goal view.layout.now → IsEntry w h view.layout.now.shape.now view.entry
     → IsDrawing w h goal view.layout.now.shape.now
     (level_ends w h goal view.layout.now.shape.now view.entry.level) view.drawing.now
-    → view.mode ≡ view.entry.mode → IsCandidateView w h goal view
-view_is w h goal view layout entry drawing same = record {
+    → IsCandidateView w h goal view
+view_is w h goal view layout entry drawing = record {
   layout = layout;
   entry = entry;
-  own = rw same (mode_of_entry w h view.layout.now.shape.now view.entry entry);
-  range = rw same
-      (decoded_mode-range view.entry.number view.entry.mode entry.small entry.known);
+  own = mode_of_entry w h view.layout.now.shape.now view.entry entry;
+  range = decoded_mode-range view.entry.number view.entry.mode entry.small entry.known;
   drawing = drawing;
 }

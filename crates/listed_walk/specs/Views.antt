@@ -18,15 +18,15 @@ use Rattle.listed_walk.specs.declared.views.CandidateView.{CandidateView}
 pub record IsCandidateView (w h : ℕ) (goal : GoalView) (view : CandidateView) : Type 0 where
   pub layout : IsSourceShape w h goal view.layout.now
   pub entry : IsEntry w h view.layout.now.shape.now view.entry
-  pub own : IsModeOf w h view.layout.now.shape.now view.entry view.mode
-  pub range : IsInModeRange view.mode
+  pub own : IsModeOf w h view.layout.now.shape.now view.entry view.entry.mode
+  pub range : IsInModeRange view.entry.mode
   pub drawing : IsDrawing w h goal view.layout.now.shape.now
       (level_ends w h goal view.layout.now.shape.now view.entry.level) view.drawing.now
 
 -- the block that is made of it
 abbrev pub block_of : (w h : ℕ) → GoalView → CandidateView → CodedFields
 block_of w h goal view = coded_of w h (with_mode view.entry.number view.layout.now.shape.now)
-    view.mode view.entry.level goal.places
+    view.entry.mode view.entry.level goal.places
 
 -- the targets of its weights in a plane
 abbrev pub plane_targets : (w h : ℕ) → GoalView → CandidateView → ℕ → List ℕ
@@ -38,5 +38,5 @@ plane_targets w h goal view plane =
 -- these are the origins of its weights
 abbrev pub AreItsOrigins : (w h : ℕ) → GoalView → CandidateView → List GroupOrigins → Type 0
 AreItsOrigins w h goal view groups =
-    AreOriginsTo w h view.mode.across view.mode.down
-    (grid_places w h view.mode.across view.mode.down goal.places) ((w * h + 3) / 4) groups
+    AreOriginsTo w h view.entry.mode.across view.entry.mode.down
+    (grid_places w h view.entry.mode.across view.entry.mode.down goal.places) ((w * h + 3) / 4) groups

@@ -7,7 +7,7 @@ ghost use Rattle.texel_error.specs.Drawing.{HaveValues, values_of};
 
 use crate::kinds::ModeEntry;
 use crate::levels::{Drawing, DrawnLanes, SourceShape};
-use astc_model::{Level, Mode};
+use astc_model::Level;
 use quant_tables::nearest_weight_values;
 use texel_error::DrawnPoints;
 
@@ -16,8 +16,6 @@ use texel_error::DrawnPoints;
 pub struct CandidateView<'a> {
     pub layout: &'a SourceShape<'a>,
     pub entry: ModeEntry,
-    /// The mode of the entry's number.
-    pub mode: Mode,
     /// The data to draw candidates between the colours of the entry's level.
     pub drawing: &'a Drawing<'a>,
 }

@@ -105,9 +105,9 @@ impl<'a, const W: usize, const H: usize> Walk<'a, W, H> {
         };
         let palette = palette_from(layout.shape, view.entry.level, layout.bounds);
         let places = self.goal.source().places();
-        let grid = self.grids().grid(&view.mode);
+        let grid = self.grids().grid(&view.entry.mode);
         let targets = targets_between(layout, view.drawing.ends, self.goal);
-        candidate_with::<W, H>(&recipe, &view.mode, &palette, &targets, grid, places)
+        candidate_with::<W, H>(&recipe, &view.entry.mode, &palette, &targets, grid, places)
     }
 
     // The error of the candidate if it is under the limit, from the origins of its weights.
@@ -125,7 +125,11 @@ impl<'a, const W: usize, const H: usize> Walk<'a, W, H> {
             (error_to W H self.now (CodedBlock (block_of W H self.now view.now))) }
         ensures never_falls { steps.old ≤ steps.new }
     {
-        let (level, plane, lanes) = (view.mode.level, view.layout.shape.plane, view.drawing.lanes);
+        let (level, plane, lanes) = (
+            view.entry.mode.level,
+            view.layout.shape.plane,
+            view.drawing.lanes,
+        );
         let outline = Outline {
             colours: &lanes.colours,
             plane,
@@ -142,7 +146,7 @@ impl<'a, const W: usize, const H: usize> Walk<'a, W, H> {
         requires { IsCandidateView W H self.now view.now }
         ensures { IfSome result (λ found. AreItsOrigins W H self.now view.now found.now.groups) }
     {
-        self.grids().origins(&view.mode)
+        self.grids().origins(&view.entry.mode)
     }
 
     // The origins of the candidate's weights.
@@ -150,8 +154,8 @@ impl<'a, const W: usize, const H: usize> Walk<'a, W, H> {
         requires { IsCandidateView W H self.now view.now }
         ensures { AreItsOrigins W H self.now view.now result.groups }
     {
-        let around = Surroundings::of(view.mode.across, view.mode.down);
-        let grid = self.grids().grid(&view.mode);
+        let around = Surroundings::of(view.entry.mode.across, view.entry.mode.down);
+        let grid = self.grids().grid(&view.entry.mode);
         GridOrigins::of::<W, H>(&around, grid, false)
     }
 
@@ -183,6 +187,7 @@ impl<'a, const W: usize, const H: usize> Walk<'a, W, H> {
     }
 
     // Tries a candidate, and makes it if its error is under the best one.
+    #[inline(always)]
     fn look_at_candidate(&self, view: &CandidateView, progress: &mut Progress)
         requires view { IsCandidateView W H self.now view.now }
         requires sound { IsSoundBest W H self.now progress.old.best }
@@ -221,7 +226,6 @@ impl<'a, const W: usize, const H: usize> Walk<'a, W, H> {
             let view = CandidateView {
                 layout,
                 entry: *entry,
-                mode: entry.mode,
                 drawing: &drawn.drawing,
             };
             self.look_at_candidate(&view, progress);

@@ -89,15 +89,15 @@ candidate_with-requires-clause-targets g c =
     in
     let texels : c.places-places.result.now ≡ aim.places = c.places-places.ensures.all
     ∙ c.source.ensures ∙ ap (λ view. view.places) c.self.view_is in
-    let planes : its.mode.planes ≡ planes_of shape =
-    planes_are g.row.W g.row.H aim shape its.entry its.mode
+    let planes : its.entry.mode.planes ≡ planes_of shape =
+    planes_are g.row.W g.row.H aim shape its.entry its.entry.mode
     (palette_at g.row.W g.row.H aim shape level) is.layout.sides is.layout.mapped.fields is.own
     refl (palette_at-is g.row.W g.row.H aim shape level)
     in
     let made = subst (λ ends. AreTargets shape.plane (planes_of shape) map ends aim.places
     (g.row.W * g.row.H) c.targets_between-targets.result) is.drawing.colours
     (rw c.self.view_is at c.targets_between-targets.ensures) in
-    targets_same shape.plane (planes_of shape) its.mode.planes map map
+    targets_same shape.plane (planes_of shape) its.entry.mode.planes map map
     (level_ends g.row.W g.row.H aim shape level) palette.ends.items aim.places
     c.places-places.result.now (g.row.W * g.row.H) _
     c.targets_between-targets.result (sym planes) refl ends (sym texels)
@@ -117,6 +117,6 @@ returns g c =
     let texels : c.places-places.result.now ≡ c.args.self.now.places = c.places-places.ensures.all
     ∙ c.source.ensures ∙ ap (λ view. view.places) c.self.view_is in
     c.candidate_with.ensures.same
-    ∙ ap (λ level. coded_of g.row.W g.row.H recipe its.mode level c.places-places.result.now)
+    ∙ ap (λ level. coded_of g.row.W g.row.H recipe its.entry.mode level c.places-places.result.now)
     c.palette_from-palette.ensures.level
-    ∙ ap (coded_of g.row.W g.row.H recipe its.mode its.entry.level) texels
+    ∙ ap (coded_of g.row.W g.row.H recipe its.entry.mode its.entry.level) texels

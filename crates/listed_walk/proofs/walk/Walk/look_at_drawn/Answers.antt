@@ -22,7 +22,7 @@ look_at_candidate-requires g c =
             (subst (λ (level : Level). IsDrawing g.row.W g.row.H c.args.self.now shape
             (level_ends g.row.W g.row.H c.args.self.now shape level) drawn.drawing)
             (sym (c.requires.drawn.group.same n _ c.loop-entry-test.true))
-            c.requires.drawn.drawing) refl,
+            c.requires.drawn.drawing),
         c.loop-entry.invariant.sound,
       ),
     )
